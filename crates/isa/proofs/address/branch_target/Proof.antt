@@ -1,0 +1,24 @@
+-- 128 to 255 stand for a distance back, which wraps as a long way forward.
+use mathlib.Core.Path.{_≡_, refl, sym, ap, _∙_}
+use native.Mathlib.Omega.{arith}
+use Prim.Native.Nat.{ℕ, _+_, _-_, _*_, _/_, _%_, _^_, _<_, _≤_, max}
+use borrow.Author.Tests.{eq-eqb, ne-eqb, lt-ltb, le-ltb}
+use borrow.Author.Needs.{needs}
+use Rattle.isa.specs.declared.address.ByteAddress.{ByteAddress}
+use Rattle.isa.proofs.address.branch_target.Statement.{statement}
+use Rattle.isa.proofs.address.branch_target.Tie as tie
+
+-- equal numbers are equal addresses
+at : {a b : ℕ} → a ≡ b → _≡_ {A = ByteAddress} (record { 0 = a }) (record { 0 = b })
+at e = ap (λ (x : ℕ). record { 0 = x }) e
+
+pub branch-target-spec : {M : Type 1} → statement M
+branch-target-spec =
+    tie.close
+    (tie.spec
+    (λ c. search needs)
+    (λ c κs. search needs)
+    (λ c. search needs)
+    (λ c κs. search needs)
+    (λ c. let l : c .before .before .args .offset < 128 = omega arith in simp (lt-ltb _ _ l) (at (omega (arith, c .wrapping-add-u16 .ensures))))
+    (λ c. let l : 128 ≤ c .before .before .args .offset = omega arith in simp (le-ltb _ _ l) (at (omega (arith, c .wrapping-add-u162 .ensures)))))

@@ -1,0 +1,24 @@
+-- The operation's bits pick the table's entry.
+use mathlib.Core.Path.{_≡_, refl, sym, ap, _∙_}
+use native.Mathlib.Omega.{arith}
+use Rattle.isa.specs.Field.{field}
+use Prim.Native.Nat.{ℕ, _+_, _-_, _*_, _/_, _%_, _^_, _<_, _≤_, max}
+use Rattle.isa.proofs.Table.{entry-past, skip}
+use borrow.Author.Needs.{needs}
+use Rattle.isa.proofs.decoder.decode_alu.Statement.{statement}
+use Rattle.isa.proofs.decoder.decode_alu.Tie as tie
+
+pub decode-alu-spec : {M : Type 1} → statement M
+decode-alu-spec =
+    tie.close
+    (tie.spec
+    (λ c κs. search needs)
+    (λ c κs. search needs)
+    (λ c κs. search needs)
+    (λ c. let e : field (c .before .before .before .before .args .h) 6 4 ≡ 0 = omega arith in simp (e, c .before .before .before .bits .ensures, c .before .before .bits2 .ensures))
+    (λ c. let e : field (c .before .before .before .before .args .h) 6 4 ≡ 1 = omega arith in simp (e, c .before .before .before .bits .ensures, c .before .before .bits2 .ensures))
+    (λ c. let e : field (c .before .before .before .before .args .h) 6 4 ≡ 2 = omega arith in simp (e, c .before .before .before .bits .ensures, c .before .before .bits2 .ensures))
+    (λ c. let e : field (c .before .before .before .before .args .h) 6 4 ≡ 3 = omega arith in simp (e, c .before .before .before .bits .ensures, c .before .before .bits2 .ensures))
+    (λ c. let e : field (c .before .before .before .before .args .h) 6 4 ≡ 4 = omega arith in simp (e, c .before .before .before .bits .ensures, c .before .before .bits2 .ensures))
+    (λ c. let e : field (c .before .before .before .before .args .h) 6 4 ≡ 5 = omega arith in simp (e, c .before .before .before .bits .ensures, c .before .before .bits2 .ensures))
+    (λ c. let p : 6 ≤ field (c .before .before .before .before .args .h) 6 4 = omega arith in simp entry-past))

@@ -1,0 +1,39 @@
+-- The claims of specs/Claims, proved.
+use mathlib.Core.Path.{_≡_, refl, ap, subst}
+use mathlib.Core.Bool.{Bool, false}
+use Prim.Native.Nat.{ℕ, _*_, _/_, _%_}
+use native.Mathlib.Omega.{arith}
+use lib.Dec.{T, eqb, eqb→eq}
+use Rattle.isa.specs.declared.address.InstructionIndex.{InstructionIndex}
+use Rattle.isa.specs.declared.encoder.Encoded.{Encoded}
+use Rattle.isa.specs.declared.encoder.Encoded.the-variants.{Halfword, Refused}
+use Rattle.isa.specs.Encode.{encodeOf}
+use Rattle.isa_laws.specs.Claims.{DecodeThenEncode, EncodeThenDecode, DefinedCount, AddressesExact, NumbersExact}
+use Rattle.isa_laws.proofs.Defined.{at-defined}
+use Rattle.isa_laws.proofs.There.{There, there}
+
+abbrev isHalfword : ℕ → Encoded → Bool
+isHalfword h (Halfword k) = eqb k h
+isHalfword h (Refused r) = false
+
+halfword : (h : ℕ) (e : Encoded) → T (isHalfword h e) → e ≡ Halfword h
+halfword h (Halfword k) t = ap Halfword (eqb→eq k h t)
+halfword h (Refused r) t = absurd t
+
+pub decode-then-encode : DecodeThenEncode
+decode-then-encode h l i e = halfword h (encodeOf i) (at-defined (λ k j. isHalfword k (encodeOf j)) tt h l i e)
+
+pub encode-then-decode : EncodeThenDecode
+encode-then-decode i h e = subst (There i) e (there i)
+
+pub defined-count : DefinedCount
+defined-count = refl
+
+index : {a b : ℕ} → a ≡ b → _≡_ {A = InstructionIndex} (record { 0 = a }) (record { 0 = b })
+index e = ap (λ (x : ℕ). record { 0 = x }) e
+
+pub addresses-exact : AddressesExact
+addresses-exact i h = (omega arith, index (omega arith))
+
+pub numbers-exact : NumbersExact
+numbers-exact n = omega arith

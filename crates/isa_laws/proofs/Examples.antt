@@ -1,0 +1,26 @@
+-- Worked examples, each by computing ("Bench table").
+use mathlib.Core.Path.{_≡_, refl}
+use Rattle.isa.specs.declared.instruction.Instruction.the-variants.{CmpHigh, Halt}
+use Rattle.isa.specs.declared.decoder.Decoded.the-variants.{Defined, Undefined}
+use Rattle.isa.specs.declared.encoder.Encoded.the-variants.{Refused}
+use Rattle.isa.specs.Refusal.{refusal}
+use Rattle.isa.specs.Decode.{decodeOf}
+use Rattle.isa.specs.Encode.{encodeOf}
+
+pub halt : decodeOf 0x0000 ≡ Defined Halt
+halt = refl
+
+pub unused-halt : decodeOf 0x0001 ≡ Undefined
+unused-halt = refl
+
+pub cmp-two-low : decodeOf 0x4500 ≡ Undefined
+cmp-two-low = refl
+
+pub cmp-high : decodeOf 0x4540 ≡ Defined (CmpHigh 8 0)
+cmp-high = refl
+
+pub condition-fourteen : decodeOf 0xDE00 ≡ Undefined
+condition-fourteen = refl
+
+pub refused-two-low : encodeOf (CmpHigh 7 7) ≡ Refused (refusal 17)
+refused-two-low = refl

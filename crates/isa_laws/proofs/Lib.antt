@@ -1,0 +1,5 @@
+pub mod Every
+pub mod Defined
+pub mod There
+pub mod Claims
+pub mod Examples

@@ -1,0 +1,31 @@
+-- What is claimed of the instruction set as a whole ("Encodings").
+use mathlib.Core.Path.{_≡_}
+use Prim.Native.Nat.{ℕ, _+_, _*_, _<_, _≤_}
+use Rattle.isa.specs.declared.address.InstructionIndex.{InstructionIndex}
+use Rattle.isa.specs.declared.instruction.Instruction.{Instruction}
+use Rattle.isa.specs.declared.decoder.Decoded.the-variants.{Defined}
+use Rattle.isa.specs.declared.encoder.Encoded.the-variants.{Halfword}
+use Rattle.isa.specs.Address.{byteAddressOf, instructionIndexOf}
+use Rattle.isa.specs.Decode.{decodeOf}
+use Rattle.isa.specs.Encode.{encodeOf}
+use Rattle.isa.specs.Count.{definedBelow}
+
+-- an instruction that was decoded encodes to the halfword it came from
+abbrev pub DecodeThenEncode : Type 0
+DecodeThenEncode = (h : ℕ) → h < 65536 → (i : Instruction) → decodeOf h ≡ Defined i → encodeOf i ≡ Halfword h
+
+-- a halfword that was encoded decodes to the instruction it came from: the encoder refuses only what no halfword says
+abbrev pub EncodeThenDecode : Type 0
+EncodeThenDecode = (i : Instruction) (h : ℕ) → encodeOf i ≡ Halfword h → decodeOf h ≡ Defined i
+
+-- how many halfwords are defined
+abbrev pub DefinedCount : Type 0
+DefinedCount = definedBelow 65536 ≡ 19009
+
+-- up to 32,767 an instruction's address is twice its number, and leads back to it
+abbrev pub AddressesExact : Type 0
+AddressesExact = (i : InstructionIndex) → i .0 ≤ 32767 → (byteAddressOf i .0 ≡ 2 * i .0) × (instructionIndexOf (byteAddressOf i) ≡ i)
+
+-- an even address is twice its instruction's number
+abbrev pub NumbersExact : Type 0
+NumbersExact = (n : ℕ) → instructionIndexOf (record { 0 = 2 * n }) .0 ≡ n

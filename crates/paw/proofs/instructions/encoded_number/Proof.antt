@@ -1,0 +1,18 @@
+-- Each case is the definition's.
+use mathlib.Core.Path.{_≡_, refl, sym, ap, _∙_}
+use borrow.Author.Needs.{needs}
+use Rattle.paw.specs.Instructions.{wordOf, decodedWord, instructionOf, encodedNumber, encodedWord}
+use Rattle.paw.proofs.instructions.encoded_number.Statement.{statement}
+use Rattle.paw.proofs.instructions.encoded_number.Tie as tie
+
+pub encoded-number-spec : {M : Type 1} → statement M
+encoded-number-spec =
+    tie.close
+    (tie.spec
+    (λ c. search needs)
+    (λ c. search needs)
+    (λ c. search needs)
+    (λ c. search needs)
+    (λ c. search needs)
+    (λ c. ap encodedNumber (sym (c .before .e .given .1)))
+    (λ c. search needs))

@@ -1,0 +1,92 @@
+//! The decoder and the encoder against the reference engine, on every input there is.
+
+use paw::Instruction as Proved;
+use reference::instruction::Instruction as Expected;
+
+/// Makes an instruction of the same kind and fields for either engine.
+macro_rules! both {
+    ($($variant:ident { $($field:ident),* }),* $(,)?) => {
+        /// The proved engine's instruction, as the reference writes it.
+        fn translated(instruction: Proved) -> Expected {
+            match instruction {
+                $(Proved::$variant { $($field),* } => Expected::$variant { $($field),* },)*
+            }
+        }
+    };
+}
+
+both! {
+    MovImm { rd, imm }, CmpImm { rd, imm },
+    And { rs, rd }, Eor { rs, rd }, Asr { rs, rd }, Tst { rs, rd }, Neg { rs, rd }, Cmp { rs, rd },
+    AddHigh { rs, rd }, CmpHigh { rs, rd }, MovHigh { rs, rd },
+    Str { offset, rb, rd }, Ldr { offset, rb, rd }, Strb { offset, rb, rd }, Ldrb { offset, rb, rd },
+    AddPc { rd, imm }, Branch { cond, offset }, Halt {},
+}
+
+fn same_encoding(instruction: Proved) {
+    let expected = reference::instruction::encode(translated(instruction));
+    let expected = expected.map_err(|r| (r.number, r.place));
+    let answer = paw::encode(instruction).map_err(|r| (r.number, r.place));
+    assert_eq!(answer, expected, "{instruction:?}");
+}
+
+#[test]
+fn every_halfword_decodes_alike() {
+    let mut defined = 0;
+    for halfword in 0..=u16::MAX {
+        let answer = paw::decode(halfword);
+        assert_eq!(
+            answer.map(translated),
+            reference::instruction::decode(halfword),
+            "{halfword:#06x}"
+        );
+        if let Some(instruction) = answer {
+            defined += 1;
+            assert_eq!(paw::encode(instruction), Ok(halfword));
+        }
+    }
+    assert_eq!(defined, 19_009);
+}
+
+#[test]
+fn every_pair_of_fields_encodes_alike() {
+    let forms: [fn(u8, u8) -> Proved; 13] = [
+        |rd, imm| Proved::MovImm { rd, imm },
+        |rd, imm| Proved::CmpImm { rd, imm },
+        |rs, rd| Proved::And { rs, rd },
+        |rs, rd| Proved::Eor { rs, rd },
+        |rs, rd| Proved::Asr { rs, rd },
+        |rs, rd| Proved::Tst { rs, rd },
+        |rs, rd| Proved::Neg { rs, rd },
+        |rs, rd| Proved::Cmp { rs, rd },
+        |rs, rd| Proved::AddHigh { rs, rd },
+        |rs, rd| Proved::CmpHigh { rs, rd },
+        |rs, rd| Proved::MovHigh { rs, rd },
+        |rd, imm| Proved::AddPc { rd, imm },
+        |cond, offset| Proved::Branch { cond, offset },
+    ];
+    for form in forms {
+        for a in 0..=u8::MAX {
+            for b in 0..=u8::MAX {
+                same_encoding(form(a, b));
+            }
+        }
+    }
+    same_encoding(Proved::Halt);
+}
+
+#[test]
+fn every_triple_of_fields_encodes_alike() {
+    let forms: [fn(u8, u8, u8) -> Proved; 4] = [
+        |offset, rb, rd| Proved::Str { offset, rb, rd },
+        |offset, rb, rd| Proved::Ldr { offset, rb, rd },
+        |offset, rb, rd| Proved::Strb { offset, rb, rd },
+        |offset, rb, rd| Proved::Ldrb { offset, rb, rd },
+    ];
+    for form in forms {
+        for word in 0..1 << 24 {
+            let [_, a, b, c] = u32::to_be_bytes(word);
+            same_encoding(form(a, b, c));
+        }
+    }
+}

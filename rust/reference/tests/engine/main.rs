@@ -1,0 +1,12 @@
+//! Tests of the reference engine, one module for each of its parts.
+
+mod audit;
+mod cpu;
+mod domain;
+mod generate;
+mod image;
+mod instruction;
+mod loader;
+mod naive;
+mod table;
+mod verifier;
