@@ -3,7 +3,7 @@ ghost use Prim.Native.Nat.{_≤_, _<_};
 ghost use Rattle.isa.specs.Field.{field};
 
 // The `width` bits of a halfword from bit `at` up.
-pub fn bits(h: u16, at: u16, width: u16) -> u8
+pub(crate) fn bits(h: u16, at: u16, width: u16) -> u8
     requires { ⌜ (at < 16) × (width ≤ 8) ⌝ }
     ensures { λ r. ⌜ r ≡ field h at width ⌝ }
 {

@@ -1,2 +1,4 @@
 pub mod Date
 pub mod Instructions
+pub mod Machines
+pub mod Answers

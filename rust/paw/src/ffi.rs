@@ -2,10 +2,19 @@
 //! against the Rattle source, so all of them stand in this one file.
 #![allow(unsafe_code)]
 
-extern "C" {
+use crate::cpu::Machine;
+
+unsafe extern "C" {
     fn paw_manual_date(i: usize) -> u8;
     fn paw_decode(h: u16) -> u32;
     fn paw_encode(word: u32) -> u32;
+    fn paw_step(machine: *mut Machine, memory: *mut u8, len: usize) -> u32;
+    fn paw_run(machine: *mut Machine, memory: *mut u8, len: usize, budget: u32) -> u64;
+    fn paw_check(file: *const u8, len: usize) -> u64;
+    fn paw_verify(file: *const u8, len: usize) -> u64;
+    fn paw_load(file: *const u8, len: usize, memory: *mut u8, memory_len: usize) -> u64;
+    fn paw_pack(code: *const u16, len: usize, w: u16, l: u16, out: *mut u8, out_len: usize) -> u32;
+    fn paw_block(file: *const u8, len: usize, n: usize) -> usize;
 }
 
 pub fn manual_date_byte(i: usize) -> u8 {
@@ -21,4 +30,41 @@ pub fn decode(h: u16) -> u32 {
 pub fn encode(word: u32) -> u32 {
     // SAFETY: takes a number and answers a number, for every number.
     unsafe { paw_encode(word) }
+}
+
+pub fn step(machine: &mut Machine, memory: &mut [u8]) -> u32 {
+    // SAFETY: both are borrowed for the call alone, apart from each other, and the length is the
+    // slice's own; `Machine` has the library's layout, which `cpu` asserts.
+    unsafe { paw_step(machine, memory.as_mut_ptr(), memory.len()) }
+}
+
+pub fn run(machine: &mut Machine, memory: &mut [u8], budget: u32) -> u64 {
+    // SAFETY: as for `step`; the budget is a plain number.
+    unsafe { paw_run(machine, memory.as_mut_ptr(), memory.len(), budget) }
+}
+
+pub fn check(file: &[u8]) -> u64 {
+    // SAFETY: the file is borrowed for the call and only read, and the length is its own.
+    unsafe { paw_check(file.as_ptr(), file.len()) }
+}
+
+pub fn verify(file: &[u8]) -> u64 {
+    // SAFETY: the file is borrowed for the call and only read, and the length is its own.
+    unsafe { paw_verify(file.as_ptr(), file.len()) }
+}
+
+pub fn load(file: &[u8], memory: &mut [u8]) -> u64 {
+    // SAFETY: both are borrowed for the call, the file only read, the lengths are the slices'
+    // own, and a slice that can be written overlaps no other.
+    unsafe { paw_load(file.as_ptr(), file.len(), memory.as_mut_ptr(), memory.len()) }
+}
+
+pub fn pack(code: &[u16], w: u16, l: u16, out: &mut [u8]) -> u32 {
+    // SAFETY: as for `load`; the code's length counts halfwords on both sides.
+    unsafe { paw_pack(code.as_ptr(), code.len(), w, l, out.as_mut_ptr(), out.len()) }
+}
+
+pub fn block(file: &[u8], n: usize) -> usize {
+    // SAFETY: the file is borrowed for the call and only read, and the length is its own.
+    unsafe { paw_block(file.as_ptr(), file.len(), n) }
 }

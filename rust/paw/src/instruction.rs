@@ -1,7 +1,7 @@
 //! Instructions, and the words that carry them across the boundary: the kind in the top byte,
 //! then the fields in their order.
 
-use crate::{ffi, Refusal};
+use crate::{Refusal, ffi};
 
 /// One instruction, its fields as the halfword holds them.
 #[derive(Clone, Copy, Debug, PartialEq, Eq)]
@@ -103,27 +103,24 @@ impl Instruction {
 /// The instruction that a halfword says, or nothing where it is undefined.
 ///
 /// ```
-/// use paw::Instruction;
+/// use paw::{decode, encode, Check, Instruction};
 ///
-/// assert_eq!(paw::decode(0x4540), Some(Instruction::CmpHigh { rs: 8, rd: 0 }));
-/// assert_eq!(paw::decode(0x0001), None);
+/// assert_eq!(decode(0xA001), Some(Instruction::AddPc { rd: 0, imm: 1 }));
+/// assert_eq!(decode(0x0001), None);
+/// assert_eq!(encode(Instruction::AddPc { rd: 0, imm: 1 }), Ok(0xA001));
+/// assert_eq!(encode(Instruction::AddPc { rd: 8, imm: 1 }).unwrap_err().check, Check::Fields);
 /// ```
 pub fn decode(halfword: u16) -> Option<Instruction> {
     Instruction::from_word(ffi::decode(halfword))
 }
 
 /// The halfword of an instruction; check 17 refuses fields that form none.
-///
-/// ```
-/// use paw::Instruction;
-///
-/// assert_eq!(paw::encode(Instruction::AddPc { rd: 0, imm: 1 }), Ok(0xA001));
-/// assert_eq!(paw::encode(Instruction::AddPc { rd: 8, imm: 1 }).unwrap_err().number, 17);
-/// ```
 pub fn encode(instruction: Instruction) -> Result<u16, Refusal> {
     let answer = ffi::encode(instruction.to_word());
-    match answer & 0xFFFF {
-        0 => Ok((answer >> 16) as u16),
-        number => Err(Refusal { number: number as u8, place: 0 }),
+    let [number, halfword] = [answer as u16, (answer >> 16) as u16];
+    match number {
+        0 => Ok(halfword),
+        1..=255 => Err(Refusal::from_numbers(number as u8, halfword)),
+        _ => panic!("libpaw.a answers the encoder with {answer:#x}"),
     }
 }

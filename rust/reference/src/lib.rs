@@ -1,7 +1,8 @@
 //! An independent engine of the PAW service board: decoder and encoder, cpu, image reader and
 //! packer, verifier and loader, together with inputs and checks for testing engines.
 //!
-//! It is written from the manual and the scope alone, so that agreement with another engine means something.
+//! It is written from the manual and the scope alone, so that agreement with another engine means
+//! something.
 
 #![forbid(unsafe_code)]
 

@@ -3,6 +3,8 @@
 use paw::Instruction as Proved;
 use reference::instruction::Instruction as Expected;
 
+use crate::support::refusal;
+
 /// Makes an instruction of the same kind and fields for either engine.
 macro_rules! both {
     ($($variant:ident { $($field:ident),* }),* $(,)?) => {
@@ -25,8 +27,7 @@ both! {
 
 fn same_encoding(instruction: Proved) {
     let expected = reference::instruction::encode(translated(instruction));
-    let expected = expected.map_err(|r| (r.number, r.place));
-    let answer = paw::encode(instruction).map_err(|r| (r.number, r.place));
+    let answer = paw::encode(instruction).map_err(refusal);
     assert_eq!(answer, expected, "{instruction:?}");
 }
 

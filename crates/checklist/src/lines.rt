@@ -1,0 +1,101 @@
+// The checklist's lines.
+use super::console::print;
+use super::console::print_fit;
+use super::console::print_number;
+use super::console::print_refused;
+use cpu::Machine;
+use cpu::RunOutcome;
+use image::Checked;
+use loader::Loaded;
+use verifier::Verdict;
+
+// A machine as it starts: all registers and flags 0.
+fn cleared() -> Machine {
+    Machine {
+        regs: [0u16; 16],
+        n: false,
+        z: false,
+        c: false,
+        v: false,
+    }
+}
+
+// How many blocks the file's reader gives before it has none left.
+fn count_blocks(file: &[u8]) -> u64 {
+    let mut n: usize = 0;
+    while n < 64 {
+        let block = image::given_at(file, n);
+        if block.len() == 0 {
+            return n as u64;
+        }
+        n += 1;
+    }
+    64
+}
+
+fn print_outcome(outcome: RunOutcome, count: u32) {
+    print(b"Run: ");
+    match outcome {
+        RunOutcome::Spent => print(b"spent "),
+        RunOutcome::Halted => print(b"halt "),
+        RunOutcome::Stopped(number) => {
+            print(b"stop ");
+            print_number(number as u64);
+            print(b" after ");
+        }
+        RunOutcome::Refused(r) => {
+            print(b"refused ");
+            print_number(r.number as u64);
+            print(b" after ");
+        }
+    }
+    print_number(count as u64);
+    print(b"\n");
+}
+
+// Loads the program into a cleared memory and runs it.
+fn print_run(file: &[u8], budget: u32) {
+    let mut memory = [0u8; 65536];
+    match loader::load(file, &mut memory) {
+        Loaded::Refused(r) => {
+            print(b"Run: ");
+            print_refused(r);
+        }
+        Loaded::Done(_) => {
+            let out = cpu::run(cleared(), &mut memory, budget);
+            let outcome = out.outcome;
+            print_outcome(outcome, out.count);
+        }
+    }
+}
+
+fn print_window(file: &[u8], budget: u32) {
+    print(b"Window: ");
+    match verifier::verify(file) {
+        Verdict::Refused(r) => print_refused(r),
+        Verdict::Fit(layout) => {
+            print_fit(layout);
+            print_run(file, budget);
+        }
+    }
+}
+
+fn print_blocks(file: &[u8], budget: u32) {
+    print(b"Blocks: ");
+    match image::check(file) {
+        Checked::Refused(r) => print_refused(r),
+        Checked::Valid(_) => {
+            print_number(count_blocks(file));
+            print(b"\n");
+            print_window(file, budget);
+        }
+    }
+}
+
+// All lines, down to the first that refuses.
+pub(crate) fn print_lines(file: &[u8], budget: u32) {
+    print(b"Title page: ");
+    print(&isa::MANUAL_DATE);
+    print(b"\n");
+    print_blocks(file, budget);
+}

@@ -1,0 +1,32 @@
+// The engineers' checklist for an image on standard input: the manual's date,
+// the blocks read, the judge's line, and how a run of the loaded program from a
+// cleared machine ends. It stops at the first line that refuses. The budget of
+// the run is the argument, 1,000,000 steps if there is none.
+mod argument;
+mod console;
+mod input;
+mod lines;
+
+use argument::Budget;
+use input::Input;
+
+// One byte more than the longest image, so that a longer file is seen to be
+// longer and no more of it is read.
+const MOST: usize = 32769;
+
+fn go_through(budget: u32) {
+    let mut buffer = [0u8; MOST];
+    match input::read_input(&mut buffer) {
+        Input::Read(n) => lines::print_lines(&buffer[..n], budget),
+        Input::Failed => os::fail(b"standard input"),
+    }
+}
+
+fn main() {
+    match argument::read_budget() {
+        Budget::Steps(n) => go_through(n),
+        Budget::Bad => console::complain(
+            b"checklist: the budget is a number from 0 to 4294967295\n",
+        ),
+    }
+}

@@ -1,0 +1,25 @@
+-- A misaligned address stops before anything changes; another takes the halfword.
+use Rattle.cpu.proofs.Access.{str-stops, str-completes}
+use borrow.Author.Needs.{needs}
+use Rattle.cpu.proofs.instructions.str.Statement.{statement}
+use Rattle.cpu.proofs.instructions.str.Tie as tie
+
+pub str-spec : {M : Type 1} → statement M
+str-spec =
+    tie.close
+    (tie.spec
+    (λ c. search needs)
+    (λ c. search needs)
+    (λ c. search needs)
+    (λ c κs. search needs)
+    (λ c κs. search needs)
+    (λ c. str-stops (c .before .before .before .before .before .args .regs .now) (c .before .before .before .before .before .args .memory .now) (c .before .before .before .before .before .args .k) (c .before .before .before .before .before .args .offset) (c .before .before .before .before .before .args .rb) (c .before .before .before .before .before .args .rd) _ (c .stopped .result) (c .before .before .effective-address .ensures) (c .before .if1 .taken) (c .stopped .ensures) (c .before .before .before .before .before .pre .0))
+    (λ c. search needs)
+    (λ c. search needs)
+    (λ c. search needs)
+    (λ c κs. search needs)
+    (λ c κs. search needs)
+    (λ c κs. search needs)
+    (λ c κs. search needs)
+    (λ c. search needs)
+    (λ c. str-completes (c .before .before .before .before .before .before .before .before .before .before .before .before .before .args .regs .now) (c .before .before .before .before .before .before .before .before .before .before .before .before .before .args .memory .now) (c .before .before .before .before .before .before .before .before .before .before .before .before .before .args .k) (c .before .before .before .before .before .before .before .before .before .before .before .before .before .args .offset) (c .before .before .before .before .before .before .before .before .before .before .before .before .before .args .rb) (c .before .before .before .before .before .before .before .before .before .before .before .before .before .args .rd) (c .before .before .before .before .before .before .before .before .before .before .effective-address .result) (c .completed .result) (c .before .before .before .before .before .before .before .before .before .before .effective-address .ensures) (c .before .before .before .before .before .before .before .before .before .if1 .left) _ _ (c .before .advance .result) (c .completed .ensures) (c .before .before .before .before .before .before .store-halfword .ensures) (simp (c .before .before .flags-in .ensures) at (c .before .advance .ensures))))

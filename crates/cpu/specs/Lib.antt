@@ -1,0 +1,6 @@
+pub mod Machine
+pub mod Memory
+pub mod Alu
+pub mod Step
+pub mod Run
+pub mod Held

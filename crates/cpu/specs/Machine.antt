@@ -1,0 +1,29 @@
+-- The machine ("One step"): sixteen 16-bit registers and the flags N, Z, C, V. R15 is the PC.
+use mathlib.Core.List.{List}
+use Prim.Native.Nat.{ℕ, _+_}
+use lib.ListN.{getD, set}
+use Rattle.isa.specs.Address.{wrap}
+use Rattle.cpu.specs.declared.machine.Flags.{Flags}
+use Rattle.cpu.specs.declared.machine.Machine.{Machine}
+
+-- what a register holds; in R15 an instruction finds its own address
+abbrev pub reg : Machine → ℕ → ℕ
+reg m i = getD (m .regs) i 0
+
+abbrev pub pc : Machine → ℕ
+pc m = reg m 15
+
+abbrev pub flags : Machine → Flags
+flags m = record { n = m .n; z = m .z; c = m .c; v = m .v }
+
+-- registers and flags put together
+abbrev pub machine : List ℕ → Flags → Machine
+machine regs f = record { regs = regs; n = f .n; z = f .z; c = f .c; v = f .v }
+
+-- the registers when the PC has moved on to the next instruction; after 0xFFFE comes 0
+abbrev pub advanced : List ℕ → List ℕ
+advanced regs = set regs 15 (wrap (getD regs 15 0 + 2))
+
+-- the registers when an instruction has also put x into Rd: in R15 it replaces the address of the next instruction
+abbrev pub written : List ℕ → ℕ → ℕ → List ℕ
+written regs rd x = set (advanced regs) rd x

@@ -1,0 +1,17 @@
+// The registers and flags. R15 is the PC.
+#[repr(C)]
+pub struct Machine {
+    pub regs: [u16; 16],
+    pub n: bool,
+    pub z: bool,
+    pub c: bool,
+    pub v: bool,
+}
+
+// The flags by themselves.
+pub struct Flags {
+    pub n: bool,
+    pub z: bool,
+    pub c: bool,
+    pub v: bool,
+}

@@ -1,0 +1,67 @@
+// A run: steps until a budget is spent.
+use super::held::Control;
+use super::held::assemble;
+use super::held::control_of;
+use super::machine::Machine;
+use super::memory::MEMORY_SIZE;
+use super::stepper::Outcome;
+use super::stepper::fetch_and_execute;
+use super::stepper::wrong_size;
+use isa::Refusal;
+ghost use mathlib.Core.Path.{_≡_};
+ghost use Rattle.cpu.specs.Run.{runResult, runOf};
+ghost use Rattle.cpu.specs.Held.{held};
+
+// How a run ended: its budget was spent, or as its last step did.
+pub enum RunOutcome {
+    Spent,
+    Halted,
+    Stopped(u8),
+    Refused(Refusal),
+}
+
+// A run by value: the machine after it, how it ended, and the steps completed.
+pub struct Ran {
+    pub machine: Machine,
+    pub outcome: RunOutcome,
+    pub count: u32,
+}
+
+fn ended(regs: [u16; 16], k: Control, outcome: RunOutcome, count: u32) -> Ran
+    ensures { λ r. ⌜ (r .machine ≡ held regs k) × (r .outcome ≡ outcome) × (r .count ≡ count) ⌝ }
+{
+    Ran {
+        machine: assemble(regs, k),
+        outcome,
+        count,
+    }
+}
+
+// Steps until `budget` of them are completed or one doesn't complete. The
+// machine lies in locals while the run lasts.
+pub fn run(m: Machine, memory: &mut [u8], budget: u32) -> Ran
+    ensures { λ r. ⌜ runResult (r .machine) (now (memory .exit)) (r .outcome) (r .count) ≡ runOf budget m (now (memory .entry)) ⌝ }
+{
+    if memory.len() != MEMORY_SIZE {
+        return Ran {
+            machine: m,
+            outcome: RunOutcome::Refused(wrong_size()),
+            count: 0,
+        };
+    }
+    let mut regs = m.regs;
+    let mut k = control_of(m);
+    let mut count: u32 = 0;
+    while count < budget {
+        let e = fetch_and_execute(&mut regs, k, memory);
+        k = e.control;
+        let outcome = e.outcome;
+        match outcome {
+            Outcome::Completed => count += 1,
+            Outcome::Halted => return ended(regs, k, RunOutcome::Halted, count),
+            Outcome::Stopped(number) => return ended(regs, k, RunOutcome::Stopped(number), count),
+            Outcome::Refused(refusal) => return ended(regs, k, RunOutcome::Refused(refusal), count),
+        }
+    }
+    ended(regs, k, RunOutcome::Spent, count)
+}

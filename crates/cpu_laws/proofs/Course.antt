@@ -1,0 +1,145 @@
+-- The course of a run: its states are those that single steps lead to, all but the last of them by steps that complete, and it ends as the
+-- step at the last state would, or with its budget spent.
+use mathlib.Core.List.{List}
+use mathlib.Core.Logic.{_⊎_, inl, inr, ⊎-elim}
+use mathlib.Core.Path.{_≡_, refl, sym, ap, _∙_, subst, subst⁻¹}
+use Prim.Native.Nat.{ℕ, zero, suc, _+_, _<_, _≤_}
+use native.Mathlib.Nat.{le-of-suc-le-suc, not-suc-le-zero}
+use native.Mathlib.Omega.{arith}
+use borrow.Author.Tests.{eq-eqb}
+use lib.ListN.{length}
+use Rattle.isa.specs.declared.refusal.Refusal.{Refusal}
+use Rattle.cpu.specs.declared.machine.Machine.{Machine}
+use Rattle.cpu.specs.declared.stepper.Outcome.{Outcome}
+use Rattle.cpu.specs.declared.stepper.Outcome.the-variants.{Completed, Halted, Stopped, Refused}
+use Rattle.cpu.specs.declared.runner.RunOutcome.{RunOutcome}
+use Rattle.cpu.specs.declared.runner.RunOutcome.the-variants as run
+use Rattle.cpu.specs.Memory.{memorySize}
+use Rattle.cpu.specs.Step.{State, stepOf}
+use Rattle.cpu.specs.Run.{RunResult, nextState, stateAfter, goOn, runFrom, runOf}
+use Rattle.cpu_laws.proofs.Steps.{state, step-whole}
+
+-- how the step at a state ends
+abbrev pub outcomeAt : State → Outcome
+outcomeAt s = stepOf (s .machine) (s .memory) .outcome
+
+-- a step that ends so, and doesn't complete, ends the run so
+abbrev pub EndsAs : Outcome → RunOutcome → Type 0
+EndsAs Completed r = ⊥
+EndsAs Halted r = r ≡ run.Halted
+EndsAs (Stopped number) r = r ≡ run.Stopped number
+EndsAs (Refused q) r = r ≡ run.Refused q
+
+-- the course of `steps` steps from s, with a budget, to a result
+pub record Course (budget : ℕ) (s : State) (r : RunResult) (steps : ℕ) : Type 0 where
+  pub within : steps ≤ budget
+  pub last : r .state ≡ stateAfter steps s
+  pub completed : (k : ℕ) → k < steps → outcomeAt (stateAfter k s) ≡ Completed
+  pub end : ((r .outcome ≡ run.Spent) × (steps ≡ budget)) ⊎ ((steps < budget) × EndsAs (outcomeAt (stateAfter steps s)) (r .outcome))
+
+-- one step on from the first state, or from the last
+pub first-or-last : (k : ℕ) (s : State) → stateAfter k (nextState s) ≡ stateAfter (suc k) s
+unfolding stateAfter
+first-or-last zero s = refl
+first-or-last (suc k) s = ap nextState (first-or-last k s)
+
+Found : ℕ → ℕ → State → RunResult → Type 0
+Found budget count s r = (steps : ℕ) × (r .count ≡ steps + count) × Course budget s r steps
+
+none : (budget count : ℕ) (s : State) (o : Outcome) (q : RunOutcome) (t : State) → outcomeAt s ≡ o → EndsAs o q → t ≡ s
+    → Found (suc budget) count s (record { state = t; outcome = q; count = count })
+unfolding Found stateAfter
+none budget count s o q t e ends still = (
+  0,
+  omega arith,
+  record {
+    within = omega arith;
+    last = still;
+    completed = λ k l. absurd (not-suc-le-zero l);
+    end = inr (omega arith, subst (λ (x : Outcome). EndsAs x q) (sym e) ends);
+  },
+)
+
+more : (budget count : ℕ) (s : State) (r : RunResult) → outcomeAt s ≡ Completed → Found budget (count + 1) (nextState s) r → Found (suc budget) count s r
+unfolding Found stateAfter
+more budget count s r e (steps, counted, course) = (
+  suc steps,
+  omega arith,
+  record {
+    within = omega (arith, course .within);
+    last = course .last ∙ first-or-last steps s;
+    completed = earlier;
+    end = ⊎-elim (λ p. inl (p .0, ap suc (p .1)))
+        (λ p. inr (omega arith, subst (λ (t : State). EndsAs (outcomeAt t) (r .outcome)) (first-or-last steps s) (p .1))) (course .end);
+  },
+)
+  where
+    earlier : (k : ℕ) → k < suc steps → outcomeAt (stateAfter k s) ≡ Completed
+    earlier zero l = e
+    earlier (suc k) l =
+        subst (λ (t : State). outcomeAt t ≡ Completed) (first-or-last k s) (course .completed k (le-of-suc-le-suc l))
+
+still : (s : State) (o : Outcome) → outcomeAt s ≡ o → (o ≡ Completed → ⊥) → nextState s ≡ s
+still s o e other = ⊎-elim (λ q. absurd (other (sym e ∙ q))) (λ q. q) (step-whole (s .machine) (s .memory))
+
+halted-other : Halted ≡ Completed → ⊥
+halted-other e = let z : _≡_ {A = ℕ} 0 1 = cc in omega arith
+
+stopped-other : (number : ℕ) → Stopped number ≡ Completed → ⊥
+stopped-other number e = let z : _≡_ {A = ℕ} 0 1 = cc in omega arith
+
+refused-other : (q : Refusal) → Refused q ≡ Completed → ⊥
+refused-other q e = let z : _≡_ {A = ℕ} 0 1 = cc in omega arith
+
+-- by how the next step ends
+turn : (budget count : ℕ) (s : State) (o : Outcome) (rest : RunResult) → outcomeAt s ≡ o → Found budget (count + 1) (nextState s) rest
+    → Found (suc budget) count s (goOn o (nextState s) count rest)
+turn budget count s Completed rest e found = more budget count s rest e found
+turn budget count s Halted rest e found = none budget count s Halted run.Halted (nextState s) e refl (still s Halted e halted-other)
+turn budget count s (Stopped n) rest e found =
+    none budget count s (Stopped n) (run.Stopped n) (nextState s) e refl (still s (Stopped n) e (stopped-other n))
+turn budget count s (Refused q) rest e found =
+    none budget count s (Refused q) (run.Refused q) (nextState s) e refl (still s (Refused q) e (refused-other q))
+
+from : (budget count : ℕ) (s : State) → Found budget count s (runFrom budget count s)
+unfolding Found runFrom stateAfter
+from zero count s = (
+  0,
+  omega arith,
+  record {
+    within = omega arith;
+    last = refl;
+    completed = λ k l. absurd (not-suc-le-zero l);
+    end = inl (refl, refl);
+  },
+)
+from (suc budget) count s =
+    turn budget count s (outcomeAt s) (runFrom budget (count + 1) (nextState s)) refl (from budget (count + 1) (nextState s))
+
+-- the course of a run with a memory of the right size takes as many steps as the run counts
+pub run-course : (budget : ℕ) (m : Machine) (memory : List ℕ) → length memory ≡ memorySize
+    → Course budget (state m memory) (runOf budget m memory) (runOf budget m memory .count)
+unfolding Found runOf
+run-course budget m memory right =
+    let found = from budget 0 (state m memory) in
+    let n : found .0 ≡ runFrom budget 0 (state m memory) .count = omega (arith, found .1) in
+    simp (eq-eqb (length memory) memorySize right) (subst (λ (steps : ℕ). Course budget (state m memory) (runFrom budget 0 (state m memory)) steps) n (found .2))
+
+-- what holds at the start, and after each step that completes from where it holds, holds at every state of the course
+module _ (P : State → Type 0) (kept : (s : State) → P s → outcomeAt s ≡ Completed → P (nextState s)) where
+  pub course-keeps : (budget : ℕ) (s : State) (r : RunResult) (steps : ℕ) → Course budget s r steps → P s → (k : ℕ) → k ≤ steps → P (stateAfter k s)
+  unfolding stateAfter
+  course-keeps budget s r steps course start zero l = start
+  course-keeps budget s r steps course start (suc k) l =
+      kept (stateAfter k s) (course-keeps budget s r steps course start k (omega arith)) (course .completed k l)
+
+  pub run-keeps : (budget : ℕ) (m : Machine) (memory : List ℕ) → length memory ≡ memorySize → P (state m memory)
+      → (k : ℕ) → k ≤ runOf budget m memory .count → P (stateAfter k (state m memory))
+  run-keeps budget m memory right start =
+      course-keeps budget (state m memory) (runOf budget m memory) (runOf budget m memory .count) (run-course budget m memory right) start
+
+  -- the last state among them
+  pub run-ends-in : (budget : ℕ) (m : Machine) (memory : List ℕ) → length memory ≡ memorySize → P (state m memory) → P (runOf budget m memory .state)
+  run-ends-in budget m memory right start =
+      let course = run-course budget m memory right in
+      subst⁻¹ (λ (s : State). P s) (course .last) (run-keeps budget m memory right start (runOf budget m memory .count) (omega arith))

@@ -1,0 +1,5 @@
+pub mod Steps
+pub mod Course
+pub mod Sizes
+pub mod Overflow
+pub mod Examples

@@ -1,0 +1,68 @@
+-- A step that doesn't complete leaves everything as it was.
+use mathlib.Core.Bool.{Bool, true, false, cond}
+use mathlib.Core.List.{List}
+use mathlib.Core.Logic.{_⊎_, inl, inr}
+use mathlib.Core.Path.{_≡_, refl}
+use Prim.Native.Nat.{ℕ, _*_, _%_}
+use lib.Dec.{eqb}
+use lib.ListN.{length}
+use Rattle.isa.specs.Refusal.{refusal}
+use Rattle.isa.specs.declared.decoder.Decoded.{Decoded}
+use Rattle.isa.specs.declared.decoder.Decoded.the-variants.{Defined, Undefined}
+use Rattle.isa.specs.declared.instruction.Instruction.{Instruction}
+use Rattle.isa.specs.declared.instruction.Instruction.the-variants.{MovImm, CmpImm, And, Eor, Asr, Tst, Neg, Cmp, AddHigh, CmpHigh, MovHigh, Str, Ldr, Strb, Ldrb, AddPc, Branch, Halt}
+use Rattle.cpu.specs.declared.machine.Machine.{Machine}
+use Rattle.cpu.specs.declared.stepper.Outcome.the-variants.{Completed, Refused}
+use Rattle.cpu.specs.Machine.{pc, flags, machine, advanced, written, reg}
+use Rattle.cpu.specs.Memory.{memorySize, halfwordAt, withHalfword}
+use Rattle.cpu.specs.Step.{State, StepResult, stepResult, completed, stopped, effectiveAddress, aligned, ldrOf, strOf, strbOf, executeOf, executeDecoded, fetched, fetchAndExecute, stepOf}
+
+-- what holds of both arms of a test holds of the test's
+pub cond-keeps : {A : Type 0} (Q : A → Type 0) (test : Bool) (x y : A) → Q x → Q y → Q (cond test x y)
+cond-keeps Q true x y p q = p
+cond-keeps Q false x y p q = q
+
+abbrev pub state : Machine → List ℕ → State
+state m memory = record { machine = m; memory = memory }
+
+abbrev Whole : Machine → List ℕ → StepResult → Type 0
+Whole m memory r = (r .outcome ≡ Completed) ⊎ (r .state ≡ state m memory)
+
+execute-whole : (i : Instruction) (m : Machine) (memory : List ℕ) → Whole m memory (executeOf i m memory)
+unfolding executeOf strOf ldrOf strbOf
+execute-whole (MovImm rd imm) m memory = inl refl
+execute-whole (CmpImm rd imm) m memory = inl refl
+execute-whole (And rs rd) m memory = inl refl
+execute-whole (Eor rs rd) m memory = inl refl
+execute-whole (Asr rs rd) m memory = inl refl
+execute-whole (Tst rs rd) m memory = inl refl
+execute-whole (Neg rs rd) m memory = inl refl
+execute-whole (Cmp rs rd) m memory = inl refl
+execute-whole (AddHigh rs rd) m memory = inl refl
+execute-whole (CmpHigh rs rd) m memory = inl refl
+execute-whole (MovHigh rs rd) m memory = inl refl
+execute-whole (Str offset rb rd) m memory =
+    cond-keeps (Whole m memory) (aligned (effectiveAddress m rb (4 * offset)))
+    (completed (machine (advanced (m .regs)) (flags m)) (withHalfword memory (effectiveAddress m rb (4 * offset)) (reg m rd)))
+    (stopped 20 m memory) (inl refl) (inr refl)
+execute-whole (Ldr offset rb rd) m memory =
+    cond-keeps (Whole m memory) (aligned (effectiveAddress m rb (4 * offset)))
+    (completed (machine (written (m .regs) rd (halfwordAt memory (effectiveAddress m rb (4 * offset)))) (flags m)) memory)
+    (stopped 20 m memory) (inl refl) (inr refl)
+execute-whole (Strb offset rb rd) m memory = inl refl
+execute-whole (Ldrb offset rb rd) m memory = inl refl
+execute-whole (AddPc rd imm) m memory = inl refl
+execute-whole (Branch condition offset) m memory = inl refl
+execute-whole Halt m memory = inr refl
+
+decoded-whole : (d : Decoded) (m : Machine) (memory : List ℕ) → Whole m memory (executeDecoded d m memory)
+decoded-whole (Defined i) m memory = execute-whole i m memory
+decoded-whole Undefined m memory = inr refl
+
+pub step-whole : (m : Machine) (memory : List ℕ) → (stepOf m memory .outcome ≡ Completed) ⊎ (stepOf m memory .state ≡ state m memory)
+unfolding stepOf fetchAndExecute
+step-whole m memory =
+    cond-keeps (Whole m memory) (eqb (length memory) memorySize) (fetchAndExecute m memory) (stepResult m memory (Refused (refusal 1)))
+    (cond-keeps (Whole m memory) (eqb (pc m % 2) 0) (executeDecoded (fetched m memory) m memory) (stopped 18 m memory)
+    (decoded-whole (fetched m memory) m memory) (inr refl))
+    (inr refl)

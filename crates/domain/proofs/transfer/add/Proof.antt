@@ -1,0 +1,55 @@
+-- `add` is right because its test asks, without a sum that wraps, whether the sum of the upper bounds is above 65535.
+use mathlib.Core.Path.{_≡_, sym, _∙_}
+use Prim.Native.Nat.{_+_, _≤_, _<_}
+use native.Mathlib.Omega.{arith}
+use borrow.Author.Needs.{needs}
+use borrow.Author.Tests.{le-ltb, lt-ltb}
+use Rattle.domain.specs.Value.{addOf, largest}
+use Rattle.domain.proofs.transfer.add.Statement.{statement}
+use Rattle.domain.proofs.transfer.add.Tie as tie
+
+min-u8-requires : tie.Need-min-u8-requires
+min-u8-requires c κs = search needs
+
+sub-if1 : tie.Need-sub-if1
+sub-if1 c = search needs
+
+interval-requires : tie.Need-interval-requires
+interval-requires c κs = search needs
+
+saturating-add-requires : tie.Need-saturating-add-requires
+saturating-add-requires c κs = search needs
+
+add-interval : tie.Need-add-interval
+add-interval c = search needs
+
+interval-requires-2 : tie.Need-interval-requires-2
+interval-requires-2 c κs = search needs
+
+returns : tie.Need-returns
+unfolding addOf
+returns c =
+    let s = c .before .before .before .before .before .args in
+    let p : largest < s .a .high + s .b .high = omega arith in
+    c .interval .ensures ∙ sym (simp (lt-ltb _ _ p, ← c .before .before .before .before .min-u8 .ensures))
+
+returns-2 : tie.Need-returns-2
+unfolding addOf
+returns-2 c =
+    let s = c .before .before .before .before .before .before .before .before .args in
+    let p : s .a .high + s .b .high ≤ largest = omega arith in
+    c .interval2 .ensures
+    ∙ sym (simp (le-ltb _ _ p, ← c .before .before .before .saturating-add .ensures, ← c .before .before .before .before .before .before .before .min-u8 .ensures))
+
+pub add-spec : {M : Type 1} → statement M
+add-spec =
+    tie.close
+    (tie.spec
+    min-u8-requires
+    sub-if1
+    interval-requires
+    saturating-add-requires
+    add-interval
+    interval-requires-2
+    returns
+    returns-2)

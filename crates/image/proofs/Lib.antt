@@ -1,0 +1,7 @@
+pub mod Lists
+pub mod Blocks
+pub mod Answers
+pub mod Verdicts
+pub mod Images
+pub mod Packing
+pub mod Valid

@@ -1,0 +1,57 @@
+-- A block of a file and its fields ("Image blocks", the table).
+use mathlib.Core.List.{List}
+use Prim.Native.Nat.{ℕ, zero, suc, _+_, _*_, _/_}
+use lib.ListN.{length, getD, take, drop}
+use Rattle.isa.specs.Address.{wrap}
+use Rattle.image.specs.Format.{blockBytes, blockHalfwords, headerHalfwords}
+
+-- the halfword at byte p of some bytes, low byte first
+abbrev pub halfwordAt : List ℕ → ℕ → ℕ
+halfwordAt bytes p = getD bytes p 0 + 256 * getD bytes (p + 1) 0
+
+-- how many blocks a file has, and block k's bytes
+abbrev pub blocksIn : List ℕ → ℕ
+blocksIn file = length file / blockBytes
+
+unfoldable pub blockOf : List ℕ → ℕ → List ℕ
+blockOf file k = take blockBytes (drop (blockBytes * k) file)
+
+-- halfword j of a block
+abbrev pub halfword : List ℕ → ℕ → ℕ
+halfword block j = halfwordAt block (2 * j)
+
+-- 1: the block's number
+abbrev pub numberOf : List ℕ → ℕ
+numberOf block = halfword block 1
+
+-- 2: how many code halfwords it uses
+abbrev pub usedOf : List ℕ → ℕ
+usedOf block = halfword block 2
+
+-- 3 and 4: the window, its start w and its length l
+abbrev pub windowStartOf : List ℕ → ℕ
+windowStartOf block = halfword block 3
+
+abbrev pub windowLengthOf : List ℕ → ℕ
+windowLengthOf block = halfword block 4
+
+-- 5: how many blocks the image has
+abbrev pub countOf : List ℕ → ℕ
+countOf block = halfword block 5
+
+-- from 6: the code
+abbrev pub codeHalfword : List ℕ → ℕ → ℕ
+codeHalfword block i = halfword block (headerHalfwords + i)
+
+-- one halfword more in a sum
+abbrev pub addedTo : ℕ → ℕ → ℕ
+addedTo sum h = wrap (sum + h)
+
+-- the sum of h 0 to h (n - 1), modulo 65,536
+unfoldable pub sumBelow : (ℕ → ℕ) → ℕ → ℕ
+sumBelow h zero = 0
+sumBelow h (suc n) = addedTo (sumBelow h n) (h n)
+
+-- the sum of a whole block
+abbrev pub sumOf : List ℕ → ℕ
+sumOf block = sumBelow (halfword block) blockHalfwords

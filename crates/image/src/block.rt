@@ -1,0 +1,56 @@
+// A block of a file: its bytes, its fields and its sum.
+use super::format::BLOCK_BYTES;
+use super::format::BLOCK_HALFWORDS;
+ghost use mathlib.Core.Path.{_≡_};
+ghost use Prim.Native.Nat.{_+_, _*_, _<_, _≤_};
+ghost use lib.ListN.{length};
+ghost use Rattle.image.specs.Format.{blockBytes, blockHalfwords};
+ghost use Rattle.image.specs.Block.{halfwordAt, blockOf, halfword, addedTo, sumOf};
+
+// The halfword at byte `p`, low byte first.
+pub(crate) fn halfword_at(bytes: &[u8], p: usize) -> u16
+    requires { ⌜ p + 2 ≤ length (now bytes) ⌝ }
+    ensures { λ r. ⌜ r ≡ halfwordAt (now (bytes .entry)) p ⌝ }
+{
+    (bytes[p] as u16) + 256 * (bytes[p + 1] as u16)
+}
+
+// The bytes of block `k`.
+pub(crate) fn block_part(file: &[u8], k: usize) -> &[u8]
+    requires { ⌜ blockBytes * k + blockBytes ≤ length (now file) ⌝ }
+    ensures { λ r. ⌜ (now r ≡ blockOf (now (file .entry)) k) × (length (now r) ≡ blockBytes) ⌝ }
+{
+    let start = BLOCK_BYTES * k;
+    let end = start + BLOCK_BYTES;
+    &file[start..end]
+}
+
+// Halfword `j` of a block.
+pub(crate) fn field(block: &[u8], j: usize) -> u16
+    requires { ⌜ (length (now block) ≡ blockBytes) × (j < blockHalfwords) ⌝ }
+    ensures { λ r. ⌜ r ≡ halfword (now (block .entry)) j ⌝ }
+{
+    halfword_at(block, 2 * j)
+}
+
+// One halfword more in the sum of a block. Sums wrap, so the halfwords may come
+// in any order.
+pub(crate) fn add_to_sum(sum: u16, h: u16) -> u16
+    ensures { λ r. ⌜ r ≡ addedTo sum h ⌝ }
+{
+    std::num::wrapping_add_u16(sum, h)
+}
+
+// The sum of a block's halfwords.
+pub(crate) fn block_sum(block: &[u8]) -> u16
+    requires { ⌜ length (now block) ≡ blockBytes ⌝ }
+    ensures { λ r. ⌜ r ≡ sumOf (now (block .entry)) ⌝ }
+{
+    let mut sum = 0;
+    let mut j = 0;
+    while j < BLOCK_HALFWORDS {
+        sum = add_to_sum(sum, field(block, j));
+        j += 1;
+    }
+    sum
+}

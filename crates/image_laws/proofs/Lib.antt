@@ -1,0 +1,5 @@
+pub mod Halves
+pub mod Made
+pub mod Accepted
+pub mod Reading
+pub mod Claims

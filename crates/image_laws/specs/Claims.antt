@@ -1,0 +1,64 @@
+-- What is claimed of images as a whole ("Image blocks", "The questions", "Bench table").
+use mathlib.Core.Path.{_≡_}
+use mathlib.Core.List.{List, [], _∷_}
+use Prim.Native.Nat.{ℕ, zero, suc, _*_, _≤_, _<_}
+use lib.ListN.{length, getD}
+use Rattle.isa.specs.declared.refusal.Refusal.{Refusal}
+use Rattle.image.specs.Format.{blockBytes}
+use Rattle.image.specs.Block.{blocksIn, blockOf, halfword}
+use Rattle.image.specs.Code.{codeOf}
+use Rattle.image.specs.Check.{checkOf}
+use Rattle.image.specs.Reader.{partOf, afterOf, startOf, givenOf}
+use Rattle.image.specs.Pack.{imageOf, packOf, outputOf}
+use Rattle.image.specs.declared.checker.Layout.{Layout}
+use Rattle.image.specs.declared.checker.Checked.the-variants.{Valid, Refused}
+use Rattle.image.specs.declared.packer.Packed.the-variants.{Done}
+
+abbrev pub layout : ℕ → ℕ → ℕ → Layout
+layout c w l = record { «code_bytes» = c; «window_start» = w; «window_length» = l }
+
+-- what the packer makes, the check accepts, with the same c, w, l and code
+abbrev pub PackThenCheck : Type 0
+PackThenCheck =
+    (code : List ℕ) (w l : ℕ) (out : List ℕ) → packOf code w l (length out) ≡ Done
+    → (checkOf (outputOf code w l out) ≡ Valid (layout (2 * length code) w l)) × (codeOf (outputOf code w l out) ≡ code)
+
+-- a file of bytes
+abbrev pub Bytes : List ℕ → Type 0
+Bytes file = (p : ℕ) → getD file p 0 < 256
+
+-- an accepted file is what the packer makes of its code and window, over any output of its length: every byte of it is decided
+abbrev pub CheckThenPack : Type 0
+CheckThenPack =
+    (file : List ℕ) (c w l : ℕ) (out : List ℕ) → Bytes file → checkOf file ≡ Valid (layout c w l) → length out ≡ length file
+    → (packOf (codeOf file) w l (length out) ≡ Done) × (outputOf (codeOf file) w l out ≡ file)
+
+-- the number of the block that comes next when a file's reader has been called n times
+unfoldable pub numberAfter : List ℕ → ℕ → ℕ
+numberAfter file zero = startOf file
+numberAfter file (suc n) = afterOf file (numberAfter file n)
+
+-- what the reader gives at each call
+abbrev pub ReaderGives : Type 0
+ReaderGives = (file : List ℕ) (n : ℕ) → partOf file (numberAfter file n) ≡ givenOf file n
+
+-- an accepted file's blocks come one by one, each of 512 bytes; after the last no bytes come, call after call
+abbrev pub AcceptedGives : Type 0
+AcceptedGives =
+    (file : List ℕ) (said : Layout) → checkOf file ≡ Valid said → (n : ℕ)
+    → (n < blocksIn file → (givenOf file n ≡ blockOf file n) × (length (givenOf file n) ≡ blockBytes)) × (blocksIn file ≤ n → givenOf file n ≡ [])
+
+-- a refused file gives nothing
+abbrev pub RefusedGives : Type 0
+RefusedGives = (file : List ℕ) (r : Refusal) → checkOf file ≡ Refused r → (n : ℕ) → givenOf file n ≡ []
+
+-- the bench table's code P, and what stands in its block
+abbrev pub program : List ℕ
+program = 0x21FC ∷ 0x4008 ∷ 0x2280 ∷ 0x4412 ∷ 0x4410 ∷ 0x6001 ∷ 0x0000 ∷ []
+
+abbrev pub WorkedExample : Type 0
+WorkedExample =
+    (length (imageOf program 256 256) ≡ 512)
+    × (halfword (imageOf program 256 256) 255 ≡ 0xC090)
+    × (checkOf (imageOf program 256 256) ≡ Valid (layout 14 256 256))
+    × (codeOf (imageOf program 256 256) ≡ program)

@@ -1,0 +1,33 @@
+-- The loader's three answers, each with the memory that it leaves.
+use mathlib.Core.List.{List}
+use mathlib.Core.Path.{_≡_, refl, sym, ap, _∙_}
+use Prim.Native.Nat.{ℕ}
+use borrow.Author.Tests.{eq-eqb, ne-eqb}
+use lib.Dec.{eqb}
+use lib.ListN.{length}
+use Rattle.isa.specs.Refusal.{refusal}
+use Rattle.isa.specs.declared.refusal.Refusal.{Refusal}
+use Rattle.image.specs.Format.{memoryBytes}
+use Rattle.image.specs.declared.checker.Layout.{Layout}
+use Rattle.verifier.specs.Verify.{verifyOf}
+use Rattle.verifier.specs.declared.verifier.Verdict.the-variants as verdict
+use Rattle.loader.specs.Load.{loadedMemory, loadOf, memoryAfterLoad}
+use Rattle.loader.specs.declared.loader.Loaded.{Loaded}
+use Rattle.loader.specs.declared.loader.Loaded.the-variants.{Done, Refused}
+
+-- an answer, and the memory afterwards
+abbrev pub Answers : List ℕ → List ℕ → Loaded → List ℕ → Type 0
+Answers file memory answer after = (answer ≡ loadOf file memory) × (after ≡ memoryAfterLoad file memory)
+
+pub wrong-size : (file memory : List ℕ) → (length memory ≡ memoryBytes → ⊥) → Answers file memory (Refused (refusal 1)) memory
+unfolding loadOf memoryAfterLoad
+wrong-size file memory h = simp (ne-eqb _ _ h) (refl, refl)
+
+pub unfit : (file memory : List ℕ) (r : Refusal) → length memory ≡ memoryBytes → verifyOf file ≡ verdict.Refused r → Answers file memory (Refused r) memory
+unfolding loadOf memoryAfterLoad
+unfit file memory r h e = simp (eq-eqb _ _ h, e) (refl, refl)
+
+pub done : (file memory after : List ℕ) (layout : Layout) → length memory ≡ memoryBytes → verifyOf file ≡ verdict.Fit layout → after ≡ loadedMemory file layout memory
+    → Answers file memory (Done layout) after
+unfolding loadOf memoryAfterLoad
+done file memory after layout h e m = simp (eq-eqb _ _ h, e) (refl, m)

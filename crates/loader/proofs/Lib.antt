@@ -1,0 +1,4 @@
+pub mod Copied
+pub mod Loaded
+pub mod Fit
+pub mod Answers

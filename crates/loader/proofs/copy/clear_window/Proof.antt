@@ -1,0 +1,30 @@
+-- What comes back of the part is zeros, as many as it was long.
+use mathlib.Core.List.{List, _++_}
+use mathlib.Core.Path.{_≡_, refl, sym, ap, _∙_}
+use Prim.Native.Nat.{ℕ, _+_, _-_, _≤_}
+use native.Mathlib.Omega.{arith}
+use borrow.Rule.Slice.PartMut.{postOf, post-is}
+use borrow.Author.Needs.{needs}
+use lib.ListN.{length, take, drop, replicate, length-take, length-drop}
+use Rattle.loader.specs.Copy.{cleared}
+use Rattle.loader.proofs.copy.clear_window.Statement.{statement}
+use Rattle.loader.proofs.copy.clear_window.Tie as tie
+
+-- the part between two addresses, cleared and put back
+part-cleared : (memory part : List ℕ) (start end : ℕ) → start ≤ end → end ≤ length memory
+    → part ≡ replicate (length (take (end - start) (drop start memory))) 0
+    → take start memory ++ (part ++ postOf start (end - start) memory) ≡ cleared start end memory
+unfolding cleared
+part-cleared memory part start end h k e =
+    let l : length (take (end - start) (drop start memory)) ≡ end - start = simp (length-take, length-drop) (omega arith) in
+    simp (e, l, post-is start end memory h)
+
+returns : tie.Need-returns
+returns c =
+    let a = c .before .before .before .before .before .args in
+    part-cleared (a .memory .now) (c .before .before .clear .last .0) (a .start) (a .end) (search needs) (search needs) (c .before .before .clear .ensures)
+
+pub clear-window-spec : {M : Type 1} → statement M
+clear-window-spec =
+    tie.close
+    (tie.spec (λ c. search needs) (λ c. search needs) (λ c. search needs) (λ c κs. search needs) (λ c. search needs) returns)

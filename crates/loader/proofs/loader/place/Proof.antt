@@ -1,0 +1,42 @@
+-- The code of a fit file lies in the file, and code and window lie in memory.
+use mathlib.Core.List.{List}
+use mathlib.Core.Path.{_≡_, sym, ap, _∙_}
+use Prim.Native.Nat.{ℕ, _+_, _/_, _≤_}
+use native.Mathlib.Omega.{arith}
+use borrow.Author.Needs.{needs}
+use lib.ListN.{length}
+use Rattle.loader.specs.Copy.{withCode, cleared}
+use Rattle.loader.proofs.Copied.{code-long}
+use Rattle.loader.proofs.Fit.{window-fits, code-there, code-fits-memory, placed}
+use Rattle.loader.proofs.loader.place.Statement.{statement}
+use Rattle.loader.proofs.loader.place.Tie as tie
+
+copy-code-requires : tie.Need-copy-code-requires
+copy-code-requires c κs =
+    let s = c .before .before .before .before .before .before in
+    (code-there (s .args .file .now) (s .args .layout) (s .pre .0), omega (arith, code-fits-memory (s .args .file .now) (s .args .layout) (s .pre .0), s .pre .1))
+
+clear-window-requires : tie.Need-clear-window-requires
+clear-window-requires c κs =
+    let s = c .before .before .before .before .before .before .before .before .before .before in
+    let copied = code-long (s .args .file .now) (s .args .memory .now) (s .args .layout .«code_bytes» / 2) in
+    (omega arith, omega (arith, window-fits (s .args .file .now) (s .args .layout) (s .pre .0), ap length (c .before .before .before .copy-code .ensures), copied, s .pre .1))
+
+returns : tie.Need-returns
+returns c =
+    let s = c .before .before .before .before .before .before .before .before .before .before .before .before .before in
+    c .before .before .clear-window .ensures
+    ∙ ap (cleared (s .args .layout .«window_start») (s .args .layout .«window_start» + s .args .layout .«window_length»)) (c .before .before .before .before .before .before .copy-code .ensures)
+    ∙ placed (s .args .file .now) (s .args .layout) (s .pre .0) (s .args .memory .now) (s .pre .1)
+
+pub place-spec : {M : Type 1} → statement M
+place-spec =
+    tie.close
+    (tie.spec
+    (λ c. search needs)
+    (λ c. search needs)
+    (λ c. search needs)
+    copy-code-requires
+    clear-window-requires
+    (λ c. search needs)
+    returns)

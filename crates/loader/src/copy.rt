@@ -1,0 +1,49 @@
+// What a load does to memory.
+use isa::InstructionIndex;
+ghost use mathlib.Core.Path.{_≡_};
+ghost use Prim.Native.Nat.{ℕ, _+_, _*_, _≤_, _<_};
+ghost use lib.ListN.{length, replicate};
+ghost use Rattle.image.specs.Code.{codePosition};
+ghost use Rattle.loader.specs.Copy.{withHalfword, withCode, cleared};
+
+// Stores a halfword, low byte first.
+fn put_halfword(memory: &mut [u8], at: usize, h: u16)
+    requires { ⌜ at + 1 < length (now memory) ⌝ }
+    ensures { λ _. ⌜ now (memory .exit) ≡ withHalfword (now (memory .entry)) at h ⌝ }
+{
+    memory[at] = (h % 256) as u8;
+    memory[at + 1] = (h / 256) as u8;
+}
+
+// Copies the first `count` instructions of a file to address 0.
+pub(crate) fn copy_code(file: &[u8], memory: &mut [u8], count: u16)
+    requires { ⌜ ((i : ℕ) → i < count → codePosition i + 2 ≤ length (now file)) ⌝ }
+    requires { ⌜ 2 * count ≤ length (now memory) ⌝ }
+    ensures { λ _. ⌜ now (memory .exit) ≡ withCode (now (file .entry)) count (now (memory .entry)) ⌝ }
+{
+    let mut i: u16 = 0;
+    while i < count {
+        let h = image::code_at(file, InstructionIndex(i));
+        put_halfword(memory, 2 * (i as usize), h);
+        i += 1;
+    }
+}
+
+// Sets every byte that it is lent to 0.
+pub(crate) fn clear(part: &mut [u8])
+    ensures { λ _. ⌜ now (part .exit) ≡ replicate (length (now (part .entry))) 0 ⌝ }
+{
+    let mut i = 0;
+    while i < part.len() {
+        part[i] = 0;
+        i += 1;
+    }
+}
+
+// Clears the window: its part of memory is lent on.
+pub(crate) fn clear_window(memory: &mut [u8], start: usize, end: usize)
+    requires { ⌜ (start ≤ end) × (end ≤ length (now memory)) ⌝ }
+    ensures { λ _. ⌜ now (memory .exit) ≡ cleared start end (now (memory .entry)) ⌝ }
+{
+    clear(&mut memory[start..end]);
+}

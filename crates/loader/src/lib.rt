@@ -1,0 +1,6 @@
+// The loader: puts a fit program into memory.
+mod copy;
+mod loader;
+
+pub use loader::Loaded;
+pub use loader::load;

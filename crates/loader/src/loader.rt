@@ -1,0 +1,54 @@
+// The load of a program: checks first, then memory.
+use super::copy::clear_window;
+use super::copy::copy_code;
+use image::Layout;
+use isa::Place;
+use isa::Refusal;
+use verifier::Verdict;
+ghost use mathlib.Core.Path.{_≡_};
+ghost use lib.ListN.{length};
+ghost use Rattle.image.specs.Format.{memoryBytes};
+ghost use Rattle.verifier.specs.Verify.{verifyOf};
+ghost use Rattle.loader.specs.Load.{loadOf, memoryAfterLoad, loadedMemory};
+
+const MEMORY_BYTES: usize = 65536;
+
+// What became of a load: the layout of the loaded program, or why it was
+// refused.
+pub enum Loaded {
+    Done(Layout),
+    Refused(Refusal),
+}
+
+// Puts the code of a fit file to address 0 and clears its window.
+fn place(file: &[u8], layout: Layout, memory: &mut [u8])
+    requires { ⌜ verifyOf (now file) ≡ Verdict.Fit layout ⌝ }
+    requires { ⌜ length (now memory) ≡ memoryBytes ⌝ }
+    ensures { λ _. ⌜ now (memory .exit) ≡ loadedMemory (now (file .entry)) layout (now (memory .entry)) ⌝ }
+{
+    let start = layout.window_start as usize;
+    let end = start + layout.window_length as usize;
+    copy_code(file, memory, layout.code_bytes / 2);
+    clear_window(memory, start, end);
+}
+
+// Puts checks 1 to 14 to a file and a memory, and loads the program: its code
+// goes to address 0, its window is cleared, and no other byte changes. A refusal
+// changes nothing.
+pub fn load(file: &[u8], memory: &mut [u8]) -> Loaded
+    ensures { λ r. ⌜ (r ≡ loadOf (now (file .entry)) (now (memory .entry))) × (now (memory .exit) ≡ memoryAfterLoad (now (file .entry)) (now (memory .entry))) ⌝ }
+{
+    if memory.len() != MEMORY_BYTES {
+        return Loaded::Refused(Refusal {
+            number: 1,
+            place: Place::Nowhere,
+        });
+    }
+    match verifier::verify(file) {
+        Verdict::Refused(refusal) => Loaded::Refused(refusal),
+        Verdict::Fit(layout) => {
+            place(file, layout, memory);
+            Loaded::Done(layout)
+        }
+    }
+}

@@ -1,0 +1,14 @@
+-- The word of what `check` answers.
+use mathlib.Core.Path.{_≡_, refl, sym, ap, _∙_}
+use borrow.Author.Needs.{needs}
+use Rattle.paw.specs.Answers.{checkedWord, packedNumber}
+use Rattle.paw.proofs.images.paw_check.Statement.{statement}
+use Rattle.paw.proofs.images.paw_check.Tie as tie
+
+pub paw-check-spec : {M : Type 1} → statement M
+paw-check-spec =
+    tie.close
+    (tie.spec
+    (λ c κs. search needs)
+    (λ c κs. search needs)
+    (λ c. c .checked-word .ensures ∙ ap checkedWord (c .before .check .ensures)))

@@ -1,0 +1,21 @@
+-- The number and count of what `run` answers.
+use mathlib.Core.List.{List}
+use mathlib.Core.Path.{_≡_, ap, _∙_}
+use Prim.Native.Nat.{ℕ, _+_, _*_}
+use borrow.Author.Needs.{needs}
+use Rattle.cpu.specs.Run.{RunResult}
+use Rattle.paw.specs.Machines.{numbered, numberedRun}
+use Rattle.paw.proofs.machines.run_numbered.Statement.{statement}
+use Rattle.paw.proofs.machines.run_numbered.Tie as tie
+
+pub run-numbered-spec : {M : Type 1} → statement M
+run-numbered-spec =
+    tie.close
+    (tie.spec
+    (λ c κs. search needs)
+    (λ c κs. search needs)
+    (λ c. search needs)
+    (λ c. search needs)
+    (λ c. search needs)
+    (λ c. search needs)
+    (λ c. ap (λ (n : ℕ). numbered (c .before .before .before .before .before .run .result .machine) (c .before .before .before .before .before .run .last .1 .0) (n + c .before .before .before .before .before .run .result .count * 4294967296)) (c .before .run-number .ensures .0) ∙ ap numberedRun (c .before .before .before .before .before .run .ensures)))

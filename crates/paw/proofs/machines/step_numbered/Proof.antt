@@ -1,0 +1,18 @@
+-- The number of what `step_value` answers.
+use mathlib.Core.List.{List}
+use mathlib.Core.Path.{_≡_, ap, _∙_}
+use Prim.Native.Nat.{ℕ}
+use borrow.Author.Needs.{needs}
+use Rattle.cpu.specs.Step.{StepResult}
+use Rattle.paw.specs.Machines.{numbered, numberedStep}
+use Rattle.paw.proofs.machines.step_numbered.Statement.{statement}
+use Rattle.paw.proofs.machines.step_numbered.Tie as tie
+
+pub step-numbered-spec : {M : Type 1} → statement M
+step-numbered-spec =
+    tie.close
+    (tie.spec
+    (λ c κs. search needs)
+    (λ c κs. search needs)
+    (λ c. search needs)
+    (λ c. ap (λ (n : ℕ). numbered (c .before .before .before .before .step-value .result .machine) (c .before .before .before .before .step-value .last .1 .0) n) (c .outcome-number .ensures) ∙ ap numberedStep (c .before .before .before .before .step-value .ensures)))

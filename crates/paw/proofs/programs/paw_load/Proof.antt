@@ -1,0 +1,15 @@
+-- The word of what `load` answers, and the memory that it leaves.
+use mathlib.Core.Path.{_≡_, refl, sym, ap, _∙_}
+use borrow.Author.Needs.{needs}
+use Rattle.paw.specs.Answers.{checkedWord, verdictWord, loadedWord, packedNumber}
+use Rattle.paw.proofs.programs.paw_load.Statement.{statement}
+use Rattle.paw.proofs.programs.paw_load.Tie as tie
+
+pub paw-load-spec : {M : Type 1} → statement M
+paw-load-spec =
+    tie.close
+    (tie.spec
+    (λ c κs. search needs)
+    (λ c κs. search needs)
+    (λ c. search needs)
+    (λ c. (c .loaded-word .ensures ∙ ap loadedWord (c .before .before .before .load .ensures .0), c .before .before .before .load .ensures .1)))

@@ -1,0 +1,14 @@
+-- The word of what `verify` answers.
+use mathlib.Core.Path.{_≡_, refl, sym, ap, _∙_}
+use borrow.Author.Needs.{needs}
+use Rattle.paw.specs.Answers.{checkedWord, verdictWord, loadedWord, packedNumber}
+use Rattle.paw.proofs.programs.paw_verify.Statement.{statement}
+use Rattle.paw.proofs.programs.paw_verify.Tie as tie
+
+pub paw-verify-spec : {M : Type 1} → statement M
+paw-verify-spec =
+    tie.close
+    (tie.spec
+    (λ c κs. search needs)
+    (λ c κs. search needs)
+    (λ c. c .verdict-word .ensures ∙ ap verdictWord (c .before .verify .ensures)))

@@ -1,0 +1,74 @@
+// Answers as numbers.
+use image::Checked;
+use image::Layout;
+use image::Packed;
+use isa::Place;
+use isa::Refusal;
+use loader::Loaded;
+use verifier::Verdict;
+ghost use mathlib.Core.Path.{_≡_};
+ghost use Rattle.isa.specs.Refusal.{placeNumber};
+ghost use Rattle.paw.specs.Answers.{refusalWord, layoutWord, checkedWord, verdictWord, loadedWord, packedNumber};
+
+fn place_number(p: Place) -> u16
+    ensures { λ r. ⌜ r ≡ placeNumber p ⌝ }
+{
+    match p {
+        Place::Nowhere => 0,
+        Place::Block(b) => b as u16,
+        Place::Address(a) => a.0,
+    }
+}
+
+// A refusal's number, and its place above it.
+pub(crate) fn refusal_word(r: Refusal) -> u64
+    ensures { λ w. ⌜ w ≡ refusalWord r ⌝ }
+{
+    let place = r.place;
+    (r.number as u64) + (place_number(place) as u64) * 0x10000
+}
+
+// The lengths of a program that passed.
+pub(crate) fn layout_word(layout: Layout) -> u64
+    ensures { λ w. ⌜ w ≡ layoutWord layout ⌝ }
+{
+    (layout.code_bytes as u64) * 0x10000
+        + (layout.window_start as u64) * 0x100000000
+        + (layout.window_length as u64) * 0x1000000000000
+}
+
+pub(crate) fn checked_word(answer: Checked) -> u64
+    ensures { λ w. ⌜ w ≡ checkedWord answer ⌝ }
+{
+    match answer {
+        Checked::Valid(layout) => layout_word(layout),
+        Checked::Refused(r) => refusal_word(r),
+    }
+}
+
+pub(crate) fn verdict_word(answer: Verdict) -> u64
+    ensures { λ w. ⌜ w ≡ verdictWord answer ⌝ }
+{
+    match answer {
+        Verdict::Fit(layout) => layout_word(layout),
+        Verdict::Refused(r) => refusal_word(r),
+    }
+}
+
+pub(crate) fn loaded_word(answer: Loaded) -> u64
+    ensures { λ w. ⌜ w ≡ loadedWord answer ⌝ }
+{
+    match answer {
+        Loaded::Done(layout) => layout_word(layout),
+        Loaded::Refused(r) => refusal_word(r),
+    }
+}
+
+pub(crate) fn packed_number(answer: Packed) -> u32
+    ensures { λ n. ⌜ n ≡ packedNumber answer ⌝ }
+{
+    match answer {
+        Packed::Done => 0,
+        Packed::Refused(r) => r.number as u32,
+    }
+}

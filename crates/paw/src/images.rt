@@ -1,0 +1,36 @@
+// The C faces of the check, the block reader and the packer.
+use super::answers::checked_word;
+use super::answers::packed_number;
+ghost use mathlib.Core.Path.{_≡_};
+ghost use lib.ListN.{length};
+ghost use Rattle.image.specs.Check.{checkOf};
+ghost use Rattle.image.specs.Reader.{givenOf};
+ghost use Rattle.image.specs.Pack.{packOf, outputOf};
+ghost use Rattle.paw.specs.Answers.{checkedWord, packedNumber};
+
+// Puts checks 2 to 8 to a file.
+#[no_mangle]
+pub extern "C" fn paw_check(file: &[u8]) -> u64
+    ensures { λ r. ⌜ r ≡ checkedWord (checkOf (now (file .entry))) ⌝ }
+{
+    checked_word(image::check(file))
+}
+
+// How many bytes the reader of a file gives at its call number `n`, from 0:
+// block `n`, the 512 bytes from 512 times `n`, or none.
+#[no_mangle]
+pub extern "C" fn paw_block(file: &[u8], n: usize) -> usize
+    ensures { λ r. ⌜ r ≡ length (givenOf (now (file .entry)) n) ⌝ }
+{
+    let block = image::given_at(file, n);
+    block.len()
+}
+
+// Writes the image of a code to an output of exactly its length. A refusal
+// leaves the output as it was.
+#[no_mangle]
+pub extern "C" fn paw_pack(code: &[u16], w: u16, l: u16, out: &mut [u8]) -> u32
+    ensures { λ r. ⌜ (r ≡ packedNumber (packOf (now (code .entry)) w l (length (now (out .entry))))) × (now (out .exit) ≡ outputOf (now (code .entry)) w l (now (out .entry))) ⌝ }
+{
+    packed_number(image::pack(code, w, l, out))
+}

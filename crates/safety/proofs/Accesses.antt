@@ -1,0 +1,102 @@
+-- A load or store that checks 10 and 11 have passed keeps to the window.
+use mathlib.Core.Bool.{Bool, true, false, cond, _&&_, and-eq-true-iff}
+use mathlib.Core.List.{List}
+use mathlib.Core.Path.{_≡_, refl, sym, ap, _∙_}
+use Prim.Native.Nat.{ℕ, _+_, _-_, _*_, _/_, _%_, _^_, _≤_, _<_, zero-le}
+use native.Mathlib.Nat.{mul-mod-right}
+use native.Mathlib.Omega.{arith}
+use borrow.Author.Tests.{eq-eqb, ne-eqb, leb-true}
+use lib.Dec.{eqb, leb}
+use Rattle.isa.specs.Address.{wrap}
+use Rattle.isa.specs.declared.instruction.Instruction.{Instruction}
+use Rattle.isa.specs.declared.instruction.Instruction.the-variants.{MovImm, CmpImm, And, Eor, Asr, Tst, Neg, Cmp, AddHigh, CmpHigh, MovHigh, Str, Ldr, Strb, Ldrb, AddPc, Branch, Halt}
+use Rattle.image.specs.declared.checker.Layout.{Layout}
+use Rattle.domain.specs.declared.value.Value.{Value}
+use Rattle.domain_laws.specs.Holds.{Holds}
+use Rattle.domain_laws.proofs.Zeros.{zeros-less}
+use Rattle.verifier.specs.Access.{Access, accessOf}
+use Rattle.verifier.specs.Questions.{check10, check11}
+use Rattle.verifier.specs.State.{State, value}
+use Rattle.cpu.specs.declared.machine.Machine.{Machine}
+use Rattle.cpu.specs.Machine.{reg}
+use Rattle.safety.specs.Safety.{InWindow, SafeAccess}
+use Rattle.safety.proofs.Registers.{HoldsBelow}
+use Rattle.safety.proofs.Fields.{Small}
+
+-- a base register is one of the sixteen, and a halfword's offset counts in fours
+record Formed (access : Access) : Type 0 where
+  base : access .base < 16
+  fours : access .size ≡ 2 → access .offset % 4 ≡ 0
+
+none : {a : Access} → a .base ≡ 0 → a .size ≡ 0 → Formed a
+none {a} e z = record { base = omega arith; fours = λ t. absurd (omega arith) }
+
+halfword : (offset rb rd : ℕ) → rb < 8 → Formed (accessOf (Ldr offset rb rd))
+halfword offset rb rd h = record { base = omega arith; fours = λ t. omega arith }
+
+byte : (offset rb rd : ℕ) → rb < 8 → Formed (accessOf (Ldrb offset rb rd))
+byte offset rb rd h = record { base = omega arith; fours = λ t. absurd (omega arith) }
+
+formed : (i : Instruction) → Small i → Formed (accessOf i)
+formed (MovImm rd imm) h = none refl refl
+formed (CmpImm rd imm) h = none refl refl
+formed (And rs rd) h = none refl refl
+formed (Eor rs rd) h = none refl refl
+formed (Asr rs rd) h = none refl refl
+formed (Tst rs rd) h = none refl refl
+formed (Neg rs rd) h = none refl refl
+formed (Cmp rs rd) h = none refl refl
+formed (AddHigh rs rd) h = none refl refl
+formed (CmpHigh rs rd) h = none refl refl
+formed (MovHigh rs rd) h = none refl refl
+formed (Str offset rb rd) h = halfword offset rb rd (h .0)
+formed (Ldr offset rb rd) h = halfword offset rb rd (h .0)
+formed (Strb offset rb rd) h = byte offset rb rd (h .0)
+formed (Ldrb offset rb rd) h = byte offset rb rd (h .0)
+formed (AddPc rd imm) h = none refl refl
+formed (Branch condition offset) h = none refl refl
+formed Halt h = none refl refl
+
+-- an address between the bounds of a window in memory does not wrap
+in-window : (x low high offset size w l : ℕ) → low ≤ x → x ≤ high → 0 < size → w ≤ low + offset → high + offset + size ≤ w + l → w + l ≤ 65536
+    → (w ≤ wrap (x + offset)) × (wrap (x + offset) + size ≤ w + l)
+in-window x low high offset size w l a b s p q m = (omega arith, omega arith)
+
+pub access-safe : (s : State) (m : Machine) (layout : Layout) (i : Instruction) → Small i → HoldsBelow 16 s (m .regs)
+    → layout .«window_start» + layout .«window_length» ≤ 65536
+    → check10 (value s (accessOf i .base)) (layout .«window_start») (layout .«window_length») (accessOf i) ≡ true
+    → check11 (value s (accessOf i .base)) (accessOf i) ≡ true
+    → SafeAccess layout m (accessOf i)
+access-safe s m layout i small holds fits c10 c11 = record { inside = inside; aligned = aligned }
+  where
+    base : ℕ
+    base = accessOf i .base
+
+    offset : ℕ
+    offset = accessOf i .offset
+
+    size : ℕ
+    size = accessOf i .size
+
+    w : ℕ
+    w = layout .«window_start»
+
+    l : ℕ
+    l = layout .«window_length»
+
+    h : Holds (value s base) (reg m base)
+    h = holds base (formed i small .base)
+
+    inside : 0 < size → InWindow layout (wrap (reg m base + offset)) size
+    inside z =
+        let n : size ≡ 0 → ⊥ = omega arith in
+        let both = and-eq-true-iff _ _ .0 (simp (ne-eqb _ _ n) at c10) in
+        in-window (reg m base) (value s base .low) (value s base .high) offset size w l (h .low) (h .high) z
+        (leb-true _ _ (both .0)) (leb-true _ _ (both .1)) fits
+
+    aligned : size ≡ 2 → wrap (reg m base + offset) % 4 ≡ 0
+    aligned e =
+        let z : 2 ≤ value s base .zeros = leb-true _ _ (simp (eq-eqb _ _ e) at c11) in
+        let d : reg m base % 4 ≡ 0 = zeros-less (reg m base) 2 (value s base .zeros) z (h .zeros) in
+        let f : offset % 4 ≡ 0 = formed i small .fours e in
+        omega arith

@@ -1,0 +1,123 @@
+-- Demand 3, proved.
+use mathlib.Core.Bool.{Bool, true, false, cond}
+use mathlib.Core.List.{List}
+use mathlib.Core.Logic.{_⊎_, inl, inr, ⊎-elim}
+use mathlib.Core.Path.{_≡_, refl, sym, ap, _∙_, subst}
+use Prim.Native.Nat.{ℕ, zero, suc, _+_, _*_, _/_, _%_, _≤_, _<_}
+use native.Mathlib.Omega.{arith}
+use borrow.Author.Tests.{eq-eqb}
+use lib.Dec.{eqb}
+use lib.ListN.{length, getD, getD-replicate}
+use Rattle.isa.specs.declared.decoder.Decoded.the-variants.{Defined}
+use Rattle.image.specs.Code.{codeOf}
+use Rattle.image.specs.Pack.{byteOf}
+use Rattle.image.specs.declared.checker.Layout.{Layout}
+use Rattle.domain.specs.Value.{unknownOf}
+use Rattle.domain_laws.proofs.Sound.{unknown-sound}
+use Rattle.verifier.specs.Verify.{verifyOf, entering}
+use Rattle.verifier.specs.declared.verifier.Verdict.the-variants.{Fit}
+use Rattle.cpu.specs.declared.machine.Machine.{Machine}
+use Rattle.cpu.specs.declared.stepper.Outcome.{Outcome}
+use Rattle.cpu.specs.declared.stepper.Outcome.the-variants.{Completed, Halted}
+use Rattle.cpu.specs.declared.runner.RunOutcome.{RunOutcome}
+use Rattle.cpu.specs.declared.runner.RunOutcome.the-variants as run
+use Rattle.cpu.specs.Machine.{reg, pc}
+use Rattle.cpu.specs.Memory.{memorySize, byteAt, halfwordAt}
+use Rattle.cpu.specs.Step.{State, StepResult, stepOf}
+use Rattle.cpu.specs.Run.{RunResult, nextState, stateAfter, runFrom, runOf}
+use Rattle.loader.specs.Load.{codeByte}
+use Rattle.safety.specs.Safety.{Start, HoldsCode, SafeState, SameWindow, SameResult, SafeRun, Demand3, LoadHolds}
+use Rattle.safety.proofs.Fitness.{FitCode, fit-code}
+use Rattle.safety.proofs.Invariant.{Inv, HoldsHalfwords, arrive, fetched-is, safe-access, next}
+use Rattle.cpu_laws.proofs.Course.{outcomeAt, EndsAs, run-course, run-keeps}
+use Rattle.safety.proofs.Loads.{was-fit, after-load, loaded-holds}
+use Rattle.safety.proofs.Twins.{Twin, apart, same-runs}
+
+-- byte by byte is halfword by halfword
+halves : (h lo hi : ℕ) → lo ≡ h % 256 → hi ≡ h / 256 → lo + hi * 256 ≡ h
+halves h lo hi p q = omega arith
+
+holds-halfwords : (file : List ℕ) (layout : Layout) (memory : List ℕ) → layout .«code_bytes» ≡ 2 * length (codeOf file) → HoldsCode file layout memory → HoldsHalfwords (codeOf file) memory
+unfolding codeByte byteOf
+holds-halfwords file layout memory size h i hi =
+    let a : 2 * i / 2 ≡ i = omega arith in
+    let b : 2 * i % 2 ≡ 0 = omega arith in
+    let c : (2 * i + 1) / 2 ≡ i = omega arith in
+    let d : (2 * i + 1) % 2 ≡ 1 = omega arith in
+    halves (getD (codeOf file) i 0) (byteAt memory (2 * i)) (byteAt memory (2 * i + 1))
+    (h .code (2 * i) (omega (arith, size)) ∙ simp (a, b))
+    (h .code (2 * i + 1) (omega (arith, size)) ∙ simp (c, d))
+
+-- with the size of memory right, a run is what its steps make
+run-is : (budget : ℕ) (m : Machine) (memory : List ℕ) → length memory ≡ memorySize → runOf budget m memory ≡ runFrom budget 0 (record { machine = m; memory = memory })
+unfolding runOf
+run-is budget m memory h = simp (eq-eqb _ _ h)
+
+module _ (file : List ℕ) (layout : Layout) (fit : FitCode (codeOf file) layout) where
+  there : (memory : List ℕ) → HoldsCode file layout memory → HoldsHalfwords (codeOf file) memory
+  there memory h = holds-halfwords file layout memory (fit .size) h
+
+  -- the start is at instruction 0, where nothing is known
+  begin : (memory : List ℕ) → HoldsCode file layout memory → (m : Machine) → Start m → Inv (codeOf file) layout memory (record { machine = m; memory = memory })
+  unfolding entering
+  begin memory h m s =
+      record {
+        sized = record { sixteen = s .sixteen; halfwords = s .halfwords };
+        size = h .size;
+        bytes = h .bytes;
+        index = 0;
+        inside = fit .some;
+        here = s .at-zero;
+        holds = arrive (codeOf file) layout memory fit (there memory h) 0 (m .regs) (fit .some) (s .at-zero) (record { sixteen = s .sixteen; halfwords = s .halfwords })
+            (λ f r hr. rw (getD-replicate 16 r unknownOf unknownOf (omega arith)) (unknown-sound (reg m r) (s .halfwords r)));
+        kept = λ a q. refl;
+      }
+
+  -- what the invariant says of a state
+  safe-state : (memory : List ℕ) (h : HoldsCode file layout memory) (s : State) → Inv (codeOf file) layout memory s → SafeState layout memory s
+  safe-state memory h s inv =
+      record {
+        even = omega (arith, inv .here);
+        fetch = omega (arith, inv .here, inv .inside, fit .size);
+        instruction = fit .passed (inv .index) (inv .inside) .instruction;
+        defined = fetched-is (codeOf file) layout memory fit (there memory h) s inv;
+        access = safe-access (codeOf file) layout memory fit (there memory h) s inv;
+        goes-on = ⊎-elim (λ x. inr (x .0)) (λ x. inl (x .0)) (next (codeOf file) layout memory fit (there memory h) s inv);
+        kept = inv .kept;
+      }
+
+  -- a step that completes keeps the invariant
+  keeps : (memory : List ℕ) → HoldsCode file layout memory → (s : State) → Inv (codeOf file) layout memory s → outcomeAt s ≡ Completed → Inv (codeOf file) layout memory (nextState s)
+  keeps memory h s inv e =
+      ⊎-elim (λ x. absurd (apart (outcomeAt s) (x .0) e)) (λ x. x .1) (next (codeOf file) layout memory fit (there memory h) s inv)
+
+  -- a run ends spent, or as the step after its last one does, which can only halt
+  ending : (memory : List ℕ) (h : HoldsCode file layout memory) (s : State) → Inv (codeOf file) layout memory s → (o : RunOutcome) → EndsAs (outcomeAt s) o → o ≡ run.Halted
+  ending memory h s inv o e =
+      ⊎-elim (λ x. subst (λ (a : Outcome). EndsAs a o) (x .0) e) (λ x. absurd (subst (λ (a : Outcome). EndsAs a o) (x .0) e))
+      (next (codeOf file) layout memory fit (there memory h) s inv)
+
+  pub safe-run : (memory : List ℕ) → HoldsCode file layout memory → (m : Machine) → Start m → (budget : ℕ) → SafeRun file layout m memory budget
+  safe-run memory h m s budget =
+      let start : State = record { machine = m; memory = memory } in
+      let course = run-course budget m memory (h .size) in
+      let each : (k : ℕ) → k ≤ runOf budget m memory .count → Inv (codeOf file) layout memory (stateAfter k start) =
+      run-keeps (Inv (codeOf file) layout memory) (keeps memory h) budget m memory (h .size) (begin memory h m s)
+      in
+      record {
+        states = λ k hk. safe-state memory h (stateAfter k start) (each k hk);
+        last = course .last;
+        ends = ⊎-elim (λ x. inr (x .0)) (λ x. inl (ending memory h (stateAfter (runOf budget m memory .count) start) (each (runOf budget m memory .count) (omega arith)) (runOf budget m memory .outcome) (x .1))) (course .end);
+        alike = λ other g w. rw (run-is budget m memory (h .size), run-is budget m other (g .size))
+            (same-runs (codeOf file) layout fit memory other (there memory h) (there other g) budget 0 _ _ (begin memory h m s) (begin other g m s)
+            record { machine = refl; window = w; size = h .size ∙ sym (g .size) });
+      }
+
+pub demand-3 : Demand3
+demand-3 file layout fit memory h m s budget = safe-run file layout (fit-code file layout fit) memory h m s budget
+
+pub load-holds : LoadHolds
+load-holds file memory file-bytes memory-bytes layout e =
+    let done = was-fit file memory layout e in
+    let fit = fit-code file layout (done .fit) in
+    (done .fit, rw (after-load file memory layout e) (loaded-holds file memory file-bytes memory-bytes layout (omega (arith, fit .after-code, fit .in-memory))))

@@ -1,0 +1,219 @@
+-- What stays true from step to step of a run of fit code.
+use mathlib.Core.Bool.{Bool, true, false, cond, false≢true}
+use mathlib.Core.List.{List}
+use mathlib.Core.Logic.{_⊎_, inl, inr, ⊎-elim}
+use mathlib.Core.Path.{_≡_, refl, sym, ap, _∙_, subst}
+use Prim.Native.Nat.{ℕ, zero, suc, _+_, _*_, _/_, _%_, _≤_, _<_}
+use native.Mathlib.Decide.{ℕ-discrete}
+use native.Mathlib.Omega.{arith}
+use borrow.Author.Tests.{eq-eqb, ltb-true, eqb-true}
+use lib.Dec.{eqb, ltb}
+use lib.ListN.{length, getD, set, length-set}
+use Rattle.isa.specs.Address.{wrap, branchTargetOf}
+use Rattle.isa.specs.Decode.{decodeOf}
+use Rattle.isa.specs.declared.address.ByteAddress.{ByteAddress}
+use Rattle.isa.specs.declared.decoder.Decoded.{Decoded}
+use Rattle.isa.specs.declared.decoder.Decoded.the-variants.{Defined, Undefined}
+use Rattle.isa.specs.declared.instruction.Instruction.{Instruction}
+use Rattle.isa.specs.declared.instruction.Instruction.the-variants.{MovImm, CmpImm, And, Eor, Asr, Tst, Neg, Cmp, AddHigh, CmpHigh, MovHigh, Str, Ldr, Strb, Ldrb, AddPc, Branch, Halt}
+use Rattle.domain.specs.Value.{exactlyOf}
+use Rattle.image.specs.declared.checker.Layout.{Layout}
+use Rattle.verifier.specs.Access.{accessOf, jumpOf}
+use Rattle.verifier.specs.Questions.{staysBelow, check13, check14}
+use Rattle.verifier.specs.State as abstract
+use Rattle.verifier.specs.State.{unknownState, standingAt, transferOf, afterOf}
+use Rattle.verifier.specs.Targets.{addressOf, decodedAt, jumpAt, landsOn, goesTo, targeted}
+use Rattle.verifier.specs.Verify.{arriving, entering, valuesAt}
+use Rattle.verifier.specs.declared.branch.Target.the-variants.{To}
+use Rattle.cpu.specs.declared.machine.Machine.{Machine}
+use Rattle.cpu.specs.declared.stepper.Outcome.the-variants.{Completed, Halted}
+use Rattle.cpu.specs.Machine.{reg, pc}
+use Rattle.cpu.specs.Memory.{memorySize, byteAt, halfwordAt}
+use Rattle.cpu.specs.Step.{State, StepResult, executeOf, executeDecoded, fetched, fetchAndExecute, stepOf}
+use Rattle.safety.specs.Safety.{InWindow, SafeAccess}
+use Rattle.safety.proofs.Registers.{Sized, HoldsBelow, Moved, standing-holds}
+use Rattle.safety.proofs.Fields.{Small, fields-small}
+use Rattle.safety.proofs.Steps.{Completes, step-case}
+use Rattle.safety.proofs.Accesses.{access-safe}
+use Rattle.safety.proofs.Memories.{Kept, step-kept}
+use Rattle.verifier_laws.specs.Passes.{Passes}
+use Rattle.safety.proofs.Fitness.{FitCode}
+
+-- ---- the abstract states have sixteen values
+
+transfer-long : (a : ℕ) (i : Instruction) (s : abstract.State) → length (transferOf a i s) ≡ length s
+transfer-long a (MovImm rd imm) s = length-set s rd _
+transfer-long a (CmpImm rd imm) s = refl
+transfer-long a (And rs rd) s = length-set s rd _
+transfer-long a (Eor rs rd) s = length-set s rd _
+transfer-long a (Asr rs rd) s = length-set s rd _
+transfer-long a (Tst rs rd) s = refl
+transfer-long a (Neg rs rd) s = length-set s rd _
+transfer-long a (Cmp rs rd) s = refl
+transfer-long a (AddHigh rs rd) s = length-set s rd _
+transfer-long a (CmpHigh rs rd) s = refl
+transfer-long a (MovHigh rs rd) s = length-set s rd _
+transfer-long a (Str offset rb rd) s = refl
+transfer-long a (Ldr offset rb rd) s = length-set s rd _
+transfer-long a (Strb offset rb rd) s = refl
+transfer-long a (Ldrb offset rb rd) s = length-set s rd _
+transfer-long a (AddPc rd imm) s = length-set s rd _
+transfer-long a (Branch condition offset) s = refl
+transfer-long a Halt s = refl
+
+after-long : (a : ℕ) (d : Decoded) (s : abstract.State) → length (afterOf a d s) ≡ length s
+after-long a (Defined i) s = transfer-long a i s
+after-long a Undefined s = refl
+
+arriving-long : (code : List ℕ) (i : ℕ) (s : abstract.State) → length s ≡ 16 → length (arriving code i s) ≡ 16
+arriving-long code i s h = length-set (cond (targeted code i) unknownState s) 15 (exactlyOf (addressOf i .0)) ∙ go (targeted code i)
+  where
+    go : (t : Bool) → length (cond t unknownState s) ≡ 16
+    go true = refl
+    go false = h
+
+entering-long : (code : List ℕ) (i : ℕ) → length (entering code i) ≡ 16
+unfolding entering
+entering-long code zero = refl
+entering-long code (suc i) = after-long (addressOf i .0) (decodedAt code i) (valuesAt code i) ∙ arriving-long code i (entering code i) (entering-long code i)
+
+-- ---- the invariant, of a code and layout, and of the memory at the start
+
+pub record Inv (code : List ℕ) (layout : Layout) (start : List ℕ) (s : State) : Type 0 where
+  pub sized : Sized (s .machine .regs)
+  pub size : length (s .memory) ≡ 65536
+  pub bytes : (a : ℕ) → byteAt (s .memory) a < 256
+  pub index : ℕ
+  pub inside : index < length code
+  pub here : pc (s .machine) ≡ 2 * index
+  pub holds : HoldsBelow 16 (valuesAt code index) (s .machine .regs)
+  pub kept : (a : ℕ) → (InWindow layout a 1 → ⊥) → byteAt (s .memory) a ≡ byteAt start a
+
+-- the start holds the code
+abbrev pub HoldsHalfwords : List ℕ → List ℕ → Type 0
+HoldsHalfwords code start = (i : ℕ) → i < length code → halfwordAt start (2 * i) ≡ getD code i 0
+
+module _ (code : List ℕ) (layout : Layout) (start : List ℕ) (fit : FitCode code layout) (there : HoldsHalfwords code start) where
+  address-is : (i : ℕ) → i < length code → addressOf i .0 ≡ 2 * i
+  address-is i h = omega (arith, fit .short)
+
+  -- the values hold where a step arrives at instruction i, unless it came by a branch
+  pub arrive : (i : ℕ) (regs : List ℕ) → i < length code → getD regs 15 0 ≡ 2 * i → Sized regs
+      → (targeted code i ≡ false → HoldsBelow 15 (entering code i) regs) → HoldsBelow 16 (valuesAt code i) regs
+  arrive i regs h e sized holds =
+      standing-holds (addressOf i .0) (targeted code i) (entering code i) regs (omega arith) (e ∙ sym (address-is i h)) (entering-long code i) sized holds
+
+  module _ (s : State) (inv : Inv code layout start s) where
+    abbrev m : Machine
+    m = s .machine
+
+    abbrev i : ℕ
+    i = inv .index
+
+    abbrev regs′ : List ℕ
+    regs′ = executeOf (fit .passed (inv .index) (inv .inside) .instruction) (s .machine) (s .memory) .state .machine .regs
+
+    abbrev ins : Instruction
+    ins = fit .passed (inv .index) (inv .inside) .instruction
+
+    even : pc m % 2 ≡ 0
+    even = omega (arith, inv .here)
+
+    code-kept : (a : ℕ) → a < layout .«code_bytes» → byteAt (s .memory) a ≡ byteAt start a
+    code-kept a h = inv .kept a (λ q. omega (arith, q, fit .after-code))
+
+    -- the halfword at the PC is the code's
+    fetch-is : halfwordAt (s .memory) (pc m) ≡ getD code i 0
+    fetch-is =
+        rw (inv .here)
+        (omega (arith, code-kept (2 * inv .index) (omega (arith, fit .size, inv .inside)), code-kept (2 * inv .index + 1) (omega (arith, fit .size, inv .inside)), there (inv .index) (inv .inside)))
+
+    pub fetched-is : fetched m (s .memory) ≡ Defined ins
+    unfolding fetched decodedAt
+    fetched-is = ap decodeOf fetch-is ∙ fit .passed (inv .index) (inv .inside) .passes9
+
+    pub step-is : stepOf m (s .memory) ≡ executeOf ins m (s .memory)
+    unfolding stepOf fetchAndExecute
+    step-is = simp (eq-eqb _ _ (inv .size), eq-eqb _ _ even, fetched-is)
+
+    fetch-fits : halfwordAt (s .memory) (pc m) < 65536
+    fetch-fits = omega (arith, inv .bytes (pc m), inv .bytes (pc m + 1))
+
+    small : Small ins
+    unfolding fetched
+    small = fields-small (halfwordAt (s .memory) (pc m)) fetch-fits ins fetched-is
+
+    pub safe-access : SafeAccess layout m (accessOf ins)
+    safe-access =
+        access-safe (valuesAt code i) m layout ins small (inv .holds) (fit .in-memory) (fit .passed (inv .index) (inv .inside) .passes10) (fit .passed (inv .index) (inv .inside) .passes11)
+
+    here-is : addressOf i ≡ record { 0 = pc m }
+    here-is = ap (λ (a : ℕ). record { 0 = a }) (address-is i (inv .inside) ∙ sym (inv .here))
+
+    zero-halts : getD code i 0 ≡ 0 → ins ≡ Halt
+    unfolding decodedAt
+    zero-halts e = let d : Defined Halt ≡ Defined ins = sym (ap decodeOf e) ∙ fit .passed (inv .index) (inv .inside) .passes9 in cc
+
+    -- the last instruction is HALT
+    not-last : (ins ≡ Halt → ⊥) → suc i < length code
+    not-last h = go (ℕ-discrete (suc i) (length code))
+      where
+        go : Dec (suc (inv .index) ≡ length code) → suc (inv .index) < length code
+        go (yes e) = absurd (h (zero-halts (eqb-true _ _ (simp (eq-eqb _ _ e) at (fit .passed (inv .index) (inv .inside) .passes14)))))
+        go (no n) = omega (arith, inv .inside)
+
+    -- a state whose registers and memory a step has left so, at instruction j
+    arrived : (j : ℕ) → j < length code → Sized regs′ → getD regs′ 15 0 ≡ 2 * j → (targeted code j ≡ false → HoldsBelow 15 (entering code j) regs′)
+        → Inv code layout start (executeOf ins m (s .memory) .state)
+    arrived j hj sized e holds =
+        let k = step-kept layout m (s .memory) (inv .sized) ins safe-access in
+        record {
+          sized = sized;
+          size = k .size ∙ inv .size;
+          bytes = k .bytes (inv .bytes);
+          index = j;
+          inside = hj;
+          here = e;
+          holds = arrive j regs′ hj e sized holds;
+          kept = λ a h. k .same a h ∙ inv .kept a h;
+        }
+
+    -- what falls into the next instruction is what this one leaves
+    entered : entering code (suc i) ≡ transferOf (pc m) ins (valuesAt code i)
+    unfolding entering
+    entered =
+        ap (λ (d : Decoded). afterOf (addressOf i .0) d (valuesAt code i)) (fit .passed (inv .index) (inv .inside) .passes9)
+        ∙ ap (λ (a : ℕ). transferOf a ins (valuesAt code i)) (address-is i (inv .inside) ∙ sym (inv .here))
+
+    -- by falling into the next instruction
+    fell : (ins ≡ Halt → ⊥) → Moved (transferOf (pc m) ins (valuesAt code i)) regs′ (wrap (pc m + 2)) → Inv code layout start (executeOf ins m (s .memory) .state)
+    fell h moved =
+        let j : suc i < length code = not-last h in
+        arrived (suc i) j (moved .sized) (omega (arith, moved .pc, inv .here, fit .short))
+        (λ f. rw entered (moved .holds))
+
+    -- by a branch
+    branched : (t : ByteAddress) → jumpOf (record { 0 = pc m }) ins ≡ To t → t .0 % 2 ≡ 0 → Moved (transferOf (pc m) ins (valuesAt code i)) regs′ (t .0)
+        → Inv code layout start (executeOf ins m (s .memory) .state)
+    unfolding goesTo
+    branched t e even-t moved =
+        let below : t .0 < layout .«code_bytes» = ltb-true _ _ (simp (← fit .size, here-is, e) at (fit .passed (inv .index) (inv .inside) .passes13)) in
+        let hit : targeted code (t .0 / 2) ≡ true = fit .hits i (t .0 / 2) (inv .inside) (simp (fit .passed (inv .index) (inv .inside) .passes9, here-is, e) (eq-eqb (t .0 / 2) (t .0 / 2) refl)) in
+        arrived (t .0 / 2) (omega (arith, fit .size)) (moved .sized) (omega (arith, moved .pc))
+        (λ f. absurd (false≢true (sym f ∙ hit)))
+
+    -- a step of the run halts, or completes and leads to a state of the same kind
+    pub next : ((stepOf m (s .memory) .outcome ≡ Halted) × (stepOf m (s .memory) .state ≡ s)) ⊎ ((stepOf m (s .memory) .outcome ≡ Completed) × Inv code layout start (stepOf m (s .memory) .state))
+    unfolding executeOf
+    next =
+        rw step-is
+        (⊎-elim (λ e. inl (rw e (refl, refl))) (λ c. inr (c .outcome, ⊎-elim (λ moved. fell (running c) moved) (λ j. branched (j .0) (j .1) (j .2 even) (j .3)) (c .moved)))
+        (step-case (valuesAt code i) m (s .memory) (arriving-long code i (entering code i) (entering-long code i)) (inv .sized) (inv .holds) (inv .bytes) ins small
+        (fit .passed (inv .index) (inv .inside) .passes12) (safe-access .aligned)))
+      where
+        running : Completes (valuesAt code (inv .index)) (fit .passed (inv .index) (inv .inside) .instruction) (s .machine) (executeOf (fit .passed (inv .index) (inv .inside) .instruction) (s .machine) (s .memory))
+            → fit .passed (inv .index) (inv .inside) .instruction ≡ Halt → ⊥
+        running c e =
+            let h : Halted ≡ Completed = ap (λ (j : Instruction). executeOf j (s .machine) (s .memory) .outcome) (sym e) ∙ c .outcome in
+            let z : _≡_ {A = ℕ} 0 1 = cc in
+            omega arith

@@ -1,0 +1,12 @@
+pub mod Lists
+pub mod Registers
+pub mod Fields
+pub mod Steps
+pub mod Accesses
+pub mod Memories
+pub mod Fitness
+pub mod Invariant
+pub mod Twins
+pub mod Loads
+pub mod Demand3
+pub mod Instance

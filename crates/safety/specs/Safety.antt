@@ -1,0 +1,88 @@
+-- Demand 3: what holds of every run of a program that the verifier calls fit ("Words of demand 3").
+use mathlib.Core.List.{List}
+use mathlib.Core.Logic.{_⊎_}
+use mathlib.Core.Path.{_≡_}
+use Prim.Native.Nat.{ℕ, _+_, _%_, _≤_, _<_}
+use lib.ListN.{length}
+use Rattle.isa.specs.declared.decoder.Decoded.the-variants.{Defined}
+use Rattle.isa.specs.declared.instruction.Instruction.{Instruction}
+use Rattle.image.specs.declared.checker.Layout.{Layout}
+use Rattle.verifier.specs.Access.{Access, accessOf}
+use Rattle.verifier.specs.Verify.{verifyOf}
+use Rattle.verifier.specs.declared.verifier.Verdict.the-variants.{Fit}
+use Rattle.cpu.specs.declared.machine.Machine.{Machine}
+use Rattle.cpu.specs.declared.stepper.Outcome.the-variants as step
+use Rattle.cpu.specs.declared.runner.RunOutcome.the-variants as run
+use Rattle.cpu.specs.Machine.{reg, pc}
+use Rattle.cpu.specs.Memory.{memorySize, byteAt}
+use Rattle.cpu.specs.Step.{State, StepResult, effectiveAddress, fetched, stepOf}
+use Rattle.cpu.specs.Run.{RunResult, stateAfter, runOf}
+use Rattle.loader.specs.Load.{codeByte, loadOf, memoryAfterLoad}
+use Rattle.loader.specs.declared.loader.Loaded.the-variants.{Done}
+
+-- a start: any registers of 16 bits and any flags, the PC at 0
+pub record Start (m : Machine) : Type 0 where
+  pub sixteen : length (m .regs) ≡ 16
+  pub halfwords : (r : ℕ) → reg m r < 65536
+  pub at-zero : pc m ≡ 0
+
+-- a memory that holds the code of a file: 65,536 bytes, of which the first c are the code
+pub record HoldsCode (file : List ℕ) (layout : Layout) (memory : List ℕ) : Type 0 where
+  pub size : length memory ≡ memorySize
+  pub bytes : (a : ℕ) → byteAt memory a < 256
+  pub code : (a : ℕ) → a < layout .«code_bytes» → byteAt memory a ≡ codeByte file a
+
+-- so many bytes from an address lie in the window
+abbrev pub InWindow : Layout → ℕ → ℕ → Type 0
+InWindow layout a size = (layout .«window_start» ≤ a) × (a + size ≤ layout .«window_start» + layout .«window_length»)
+
+-- the data of a load or store lie in the window, at a multiple of 4 where they are a halfword
+pub record SafeAccess (layout : Layout) (m : Machine) (access : Access) : Type 0 where
+  pub inside : 0 < access .size → InWindow layout (effectiveAddress m (access .base) (access .offset)) (access .size)
+  pub aligned : access .size ≡ 2 → effectiveAddress m (access .base) (access .offset) % 4 ≡ 0
+
+-- a state of the run: its instruction is fetched from the code and defined, its data are in the window, no stop comes next, and every byte
+-- outside the window is as it was at the start
+pub record SafeState (layout : Layout) (memory : List ℕ) (s : State) : Type 0 where
+  pub even : pc (s .machine) % 2 ≡ 0
+  pub fetch : pc (s .machine) + 2 ≤ layout .«code_bytes»
+  pub instruction : Instruction
+  pub defined : fetched (s .machine) (s .memory) ≡ Defined instruction
+  pub access : SafeAccess layout (s .machine) (accessOf instruction)
+  pub goes-on : (stepOf (s .machine) (s .memory) .outcome ≡ step.Completed) ⊎ (stepOf (s .machine) (s .memory) .outcome ≡ step.Halted)
+  pub kept : (a : ℕ) → (InWindow layout a 1 → ⊥) → byteAt (s .memory) a ≡ byteAt memory a
+
+-- the window of two memories is the same
+abbrev pub SameWindow : Layout → List ℕ → List ℕ → Type 0
+SameWindow layout memory other = (a : ℕ) → InWindow layout a 1 → byteAt memory a ≡ byteAt other a
+
+-- two runs have the same registers, flags, window, ending and count
+pub record SameResult (layout : Layout) (r q : RunResult) : Type 0 where
+  pub machine : r .state .machine ≡ q .state .machine
+  pub window : SameWindow layout (r .state .memory) (q .state .memory)
+  pub outcome : r .outcome ≡ q .outcome
+  pub count : r .count ≡ q .count
+
+-- a whole run: each state is safe, from the start to the last; it ends by HALT or a spent budget; and nothing outside code and window has a part
+-- in it
+pub record SafeRun (file : List ℕ) (layout : Layout) (m : Machine) (memory : List ℕ) (budget : ℕ) : Type 0 where
+  pub states : (k : ℕ) → k ≤ runOf budget m memory .count → SafeState layout memory (stateAfter k (record { machine = m; memory = memory }))
+  pub last : runOf budget m memory .state ≡ stateAfter (runOf budget m memory .count) (record { machine = m; memory = memory })
+  pub ends : (runOf budget m memory .outcome ≡ run.Halted) ⊎ (runOf budget m memory .outcome ≡ run.Spent)
+  pub alike : (other : List ℕ) → HoldsCode file layout other → SameWindow layout memory other
+      → SameResult layout (runOf budget m memory) (runOf budget m other)
+
+-- demand 3, over every file, memory, start and budget
+abbrev pub Demand3 : Type 0
+Demand3 =
+    (file : List ℕ) (layout : Layout) → verifyOf file ≡ Fit layout
+    → (memory : List ℕ) → HoldsCode file layout memory
+    → (m : Machine) → Start m
+    → (budget : ℕ) → SafeRun file layout m memory budget
+
+-- every load that isn't refused leaves a memory that holds the code of a fit file: so a load and then a run is covered
+abbrev pub LoadHolds : Type 0
+LoadHolds =
+    (file memory : List ℕ) → ((a : ℕ) → byteAt file a < 256) → ((a : ℕ) → byteAt memory a < 256)
+    → (layout : Layout) → loadOf file memory ≡ Done layout
+    → (verifyOf file ≡ Fit layout) × HoldsCode file layout (memoryAfterLoad file memory)

@@ -1,0 +1,13 @@
+// The verifier: decides, before a program runs, that it will keep to its code
+// and its window. One pass over the code finds the branch targets; one walk
+// upward carries an abstract value for each register and checks each
+// instruction with the values before it.
+mod branch;
+mod checks;
+mod marks;
+mod operands;
+mod verifier;
+
+pub use branch::Target;
+pub use verifier::Verdict;
+pub use verifier::verify;

@@ -1,0 +1,80 @@
+// The branch targets of a code: a mark for each instruction, a bit each.
+use super::branch::Target;
+use super::branch::jump;
+use image::Checked;
+use image::Layout;
+use isa::ByteAddress;
+use isa::Decoded;
+use isa::InstructionIndex;
+ghost use mathlib.Core.Bool.{_||_};
+ghost use mathlib.Core.Path.{_≡_};
+ghost use Prim.Native.Nat.{ℕ, _<_};
+ghost use lib.Dec.{eqb};
+ghost use lib.ListN.{length};
+ghost use Rattle.isa.specs.Address.{byteAddressOf};
+ghost use Rattle.isa.specs.Decode.{decodeOf};
+ghost use Rattle.image.specs.Check.{checkOf};
+ghost use Rattle.image.specs.Code.{codeOf};
+ghost use Rattle.image.specs.Format.{mostCode};
+ghost use Rattle.verifier.specs.Targets.{jumpAt, landsOn, targeted, markWords, markedAt};
+
+// The most instructions that a code has: 64 for each word of marks.
+const MOST_CODE: u16 = 15936;
+
+// Whether an instruction is marked.
+pub(crate) fn is_marked(marks: &[u64; 249], i: InstructionIndex) -> bool
+    requires { ⌜ i .0 < mostCode ⌝ }
+    ensures { λ r. ⌜ r ≡ markedAt (now (marks .entry)) (i .0) ⌝ }
+{
+    let number = i.0 as usize;
+    let word = number / 64;
+    (marks[word] >> (number % 64)) % 2 == 1
+}
+
+// Marks an instruction, and no other.
+fn set_mark(marks: &mut [u64; 249], i: InstructionIndex)
+    requires { ⌜ (length (now marks) ≡ markWords) × (i .0 < mostCode) ⌝ }
+    ensures { λ r. ⌜ length (now (marks .exit)) ≡ markWords ⌝ }
+    ensures { λ r. ⌜ ((j : ℕ) → markedAt (now (marks .exit)) j ≡ (eqb (i .0) j || markedAt (now (marks .entry)) j)) ⌝ }
+{
+    let number = i.0 as usize;
+    let word = number / 64;
+    marks[word] = marks[word] | (1u64 << (number % 64));
+}
+
+// Marks what the halfword `h`, instruction `i`, branches to, if it is a branch
+// and a code can reach so far.
+fn mark_target(marks: &mut [u64; 249], i: InstructionIndex, h: u16)
+    requires { ⌜ length (now marks) ≡ markWords ⌝ }
+    ensures { λ r. ⌜ length (now (marks .exit)) ≡ markWords ⌝ }
+    ensures { λ r. ⌜ ((j : ℕ) → j < mostCode → markedAt (now (marks .exit)) j ≡ (landsOn (jumpAt (byteAddressOf i) (decodeOf h)) j || markedAt (now (marks .entry)) j)) ⌝ }
+{
+    let Decoded::Defined(instruction) = isa::decode(h) else {
+        return;
+    };
+    let Target::To(a) = jump(isa::byte_address(i), instruction) else {
+        return;
+    };
+    let target = isa::instruction_index(a);
+    if target.0 < MOST_CODE {
+        set_mark(marks, target);
+    }
+}
+
+// The marks of all branch targets of an accepted file's code, forward and
+// backward: bit j is set exactly when some branch of the code goes to j.
+pub(crate) fn mark_targets(file: &[u8], layout: Layout) -> [u64; 249]
+    requires { ⌜ checkOf (now file) ≡ Checked.Valid layout ⌝ }
+    ensures { λ r. ⌜ ((j : ℕ) → j < mostCode → markedAt r j ≡ targeted (codeOf (now (file .entry))) j) ⌝ }
+{
+    let count = isa::instruction_index(ByteAddress(layout.code_bytes));
+    let mut marks = [0u64; 249];
+    let mut number = 0;
+    while number < count.0 {
+        let i = InstructionIndex(number);
+        let h = image::code_at(file, i);
+        mark_target(&mut marks, i, h);
+        number += 1;
+    }
+    marks
+}

@@ -1,0 +1,86 @@
+// The walk over a code, and the verdict on a file.
+use super::checks::first_no;
+use super::marks::is_marked;
+use super::marks::mark_targets;
+use super::operands::PC_INDEX;
+use super::operands::REGISTERS;
+use super::operands::operands;
+use super::operands::result;
+use image::Checked;
+use image::Layout;
+use isa::ByteAddress;
+use isa::Decoded;
+use isa::InstructionIndex;
+use isa::Place;
+use isa::Refusal;
+ghost use mathlib.Core.Path.{_≡_};
+ghost use Rattle.isa.specs.Refusal.{refusalAt};
+ghost use Rattle.image.specs.Check.{checkOf};
+ghost use Rattle.image.specs.Code.{codeOf};
+ghost use Rattle.verifier.specs.Verify.{verifyCode, verifyOf};
+
+// The answer to a file: its layout, or the first check that it fails.
+pub enum Verdict {
+    Fit(Layout),
+    Refused(Refusal),
+}
+
+// The refusal of the instruction at an address.
+fn refused(number: u8, a: ByteAddress) -> Verdict
+    ensures { λ r. ⌜ r ≡ Verdict.Refused (refusalAt number (a .0)) ⌝ }
+{
+    Verdict::Refused(Refusal {
+        number,
+        place: Place::Address(a),
+    })
+}
+
+// Checks 9 to 14 of the code of an accepted file, lowest address first. `state`
+// holds the values of R0 to R15 before instruction `i`: unknown at address 0 and
+// at branch targets, but for R15, which is the instruction's own address.
+fn walk(file: &[u8], layout: Layout) -> Verdict
+    requires { ⌜ checkOf (now file) ≡ Checked.Valid layout ⌝ }
+    ensures { λ r. ⌜ r ≡ verifyCode (codeOf (now (file .entry))) (layout .«window_start») (layout .«window_length») ⌝ }
+{
+    let count = isa::instruction_index(ByteAddress(layout.code_bytes));
+    let marks = mark_targets(file, layout);
+    let unknown = domain::unknown();
+    let mut state = [unknown; REGISTERS];
+    let mut number = 0;
+    while number < count.0 {
+        let i = InstructionIndex(number);
+        let a = isa::byte_address(i);
+        if is_marked(&marks, i) {
+            state = [unknown; REGISTERS];
+        }
+        state[PC_INDEX] = domain::exactly(a.0);
+        let h = image::code_at(file, i);
+        let Decoded::Defined(instruction) = isa::decode(h) else {
+            return refused(9, a);
+        };
+        let registers = operands(instruction);
+        let rd = registers.rd as usize;
+        let rs = registers.rs as usize;
+        let d = state[rd];
+        let s = state[rs];
+        let no = first_no(s, layout, a, number + 1 == count.0, h, instruction);
+        if no != 0 {
+            return refused(no, a);
+        }
+        state[rd] = result(a, instruction, d, s);
+        number += 1;
+    }
+    Verdict::Fit(layout)
+}
+
+// Puts checks 2 to 14 to a file of any bytes and any length. A pass answers c, w
+// and l; a refusal the first check that failed, and where: for checks 9 to 14
+// the byte address of the instruction.
+pub fn verify(file: &[u8]) -> Verdict
+    ensures { λ r. ⌜ r ≡ verifyOf (now (file .entry)) ⌝ }
+{
+    match image::check(file) {
+        Checked::Refused(refusal) => Verdict::Refused(refusal),
+        Checked::Valid(layout) => walk(file, layout),
+    }
+}

@@ -1,0 +1,244 @@
+/*
+ * The proved firmware of the PAW service board, for C11 and C++11. Link with libpaw.a.
+ *
+ * A program for the board travels as an image file: paw_pack makes one, paw_check reads what it
+ * says of itself, paw_verify decides whether it can be run without harm, paw_load puts it into
+ * memory if so, and paw_run runs it.
+ *
+ * For all functions:
+ * - What a pointer points to is lent for the time of the call. The library keeps no pointer and
+ *   has no state of its own, so calls on different buffers may be made at the same time.
+ * - A length says how many elements stand at the pointer: bytes, or halfwords for a uint16_t
+ *   pointer. No pointer is null, not even one with length 0.
+ * - What is lent through a pointer to const is only read. What can be written must not overlap
+ *   anything else that is lent to the same call.
+ * - Every value of every argument has its answer; there is nothing else to observe.
+ */
+#ifndef PAW_H
+#define PAW_H
+
+#include <assert.h>
+#include <stdbool.h>
+#include <stddef.h>
+#include <stdint.h>
+
+#ifdef __cplusplus
+extern "C" {
+#endif
+
+enum {
+    PAW_MEMORY_BYTES = 65536, /* the whole address space */
+    PAW_BLOCK_BYTES = 512,    /* a block of an image */
+    PAW_BLOCK_CODE = 249,     /* code halfwords that a block has room for */
+    PAW_MAX_BLOCKS = 64,
+    PAW_MAX_CODE = 15936 /* code halfwords of an image: 64 times 249 */
+};
+
+/*
+ * Numbers of answers. 1 to 17 are refusals, each the number of the first check that failed; a
+ * refused call has changed nothing. 18 to 20 are stops of the machine, 255 is its HALT.
+ */
+enum paw_number {
+    PAW_OK = 0,             /* passed, packed, step completed, or budget spent */
+    PAW_MEMORY_SIZE = 1,    /* the memory does not have PAW_MEMORY_BYTES */
+    PAW_FILE_LENGTH = 2,    /* the file is not 1 to 64 whole blocks */
+    PAW_BLOCK_MARK = 3,     /* the block does not start with the mark 0xD0C1 */
+    PAW_BLOCK_SUM = 4,      /* the halfwords of the block do not sum to 0 */
+    PAW_BLOCK_NUMBER = 5,   /* the block tells a wrong number or a wrong count of blocks */
+    PAW_BLOCK_USE = 6,      /* the block has a wrong count of code, or is not 0 behind its code */
+    PAW_BLOCK_WINDOW = 7,   /* the window differs from that of block 0 */
+    PAW_WINDOW = 8,         /* the window is misaligned, empty, on the code or beyond memory */
+    PAW_UNDEFINED = 9,      /* the halfword is no instruction */
+    PAW_OUT_OF_WINDOW = 10, /* the load or store might leave the window */
+    PAW_MISALIGNED = 11,    /* the address of a halfword might not be a multiple of 4 */
+    PAW_WRITES_PC = 12,     /* the instruction writes R15 */
+    PAW_BRANCH_TARGET = 13, /* the branch leaves the code */
+    PAW_LAST_NOT_HALT = 14, /* the last instruction is not HALT */
+    PAW_CODE_LENGTH = 15,   /* the code to pack is not 1 to PAW_MAX_CODE halfwords long */
+    PAW_OUTPUT_LENGTH = 16, /* the output is not exactly the blocks that the code needs */
+    PAW_FIELDS = 17,        /* the fields form no instruction */
+    PAW_STOP_ODD_PC = 18,     /* the program counter is odd */
+    PAW_STOP_UNDEFINED = 19,  /* the halfword at the program counter is no instruction */
+    PAW_STOP_MISALIGNED = 20, /* a halfword load or store at an address that 4 does not divide */
+    PAW_HALT = 255            /* the program counter is at HALT */
+};
+
+/* The manual ------------------------------------------------------------------------------- */
+
+/* Answers byte i of the date on the title page of the manual that decides, and 0 past its end. */
+uint8_t paw_manual_date(size_t i);
+
+/* Instructions ----------------------------------------------------------------------------- */
+
+/* Kinds of instruction, and the fields of each in the order in which a word holds them. */
+enum paw_kind {
+    PAW_KIND_NONE = 0,
+    PAW_KIND_MOV_IMM = 1,   /* rd, immediate */
+    PAW_KIND_CMP_IMM = 2,   /* rd, immediate */
+    PAW_KIND_AND = 3,       /* rs, rd */
+    PAW_KIND_EOR = 4,       /* rs, rd */
+    PAW_KIND_ASR = 5,       /* rs, rd */
+    PAW_KIND_TST = 6,       /* rs, rd */
+    PAW_KIND_NEG = 7,       /* rs, rd */
+    PAW_KIND_CMP = 8,       /* rs, rd, both low */
+    PAW_KIND_ADD_HIGH = 9,  /* rs, rd */
+    PAW_KIND_CMP_HIGH = 10, /* rs, rd, one of them high */
+    PAW_KIND_MOV_HIGH = 11, /* rs, rd */
+    PAW_KIND_STR = 12,      /* offset field, rb, rd */
+    PAW_KIND_LDR = 13,      /* offset field, rb, rd */
+    PAW_KIND_STRB = 14,     /* offset field, rb, rd */
+    PAW_KIND_LDRB = 15,     /* offset field, rb, rd */
+    PAW_KIND_ADD_PC = 16,   /* rd, immediate */
+    PAW_KIND_BRANCH = 17,   /* condition, offset field */
+    PAW_KIND_HALT = 18      /* no fields */
+};
+
+/* The word of a kind and its fields, 0 for fields that the kind does not have. */
+static inline uint32_t paw_word(uint8_t kind, uint8_t first, uint8_t second, uint8_t third)
+{
+    return (uint32_t)kind << 24 | (uint32_t)first << 16 | (uint32_t)second << 8 | third;
+}
+
+/* The kind of a word. */
+static inline uint8_t paw_word_kind(uint32_t word)
+{
+    return (uint8_t)(word >> 24);
+}
+
+/* Field 0, 1 or 2 of a word. */
+static inline uint8_t paw_word_field(uint32_t word, unsigned field)
+{
+    return (uint8_t)(word >> (16 - 8 * field));
+}
+
+/* Answers the word of the instruction that a halfword says, or 0 where it is undefined. */
+uint32_t paw_decode(uint16_t halfword);
+
+/* Answers 65,536 times the halfword of an instruction's word, or PAW_FIELDS if there is none. */
+uint32_t paw_encode(uint32_t word);
+
+/* The number of an answer of paw_encode: PAW_OK or PAW_FIELDS. */
+static inline uint16_t paw_encoded_number(uint32_t answer)
+{
+    return (uint16_t)answer;
+}
+
+/* The halfword of an answer of paw_encode whose number is PAW_OK. */
+static inline uint16_t paw_encoded_halfword(uint32_t answer)
+{
+    return (uint16_t)(answer >> 16);
+}
+
+/* The machine ------------------------------------------------------------------------------ */
+
+/* Registers and flags. A program starts with R15 at 0; everything else may be anything. */
+struct paw_machine {
+    uint16_t regs[16]; /* R0 to R15; R15 is the program counter */
+    bool n;            /* negative */
+    bool z;            /* zero */
+    bool c;            /* carry, or no borrow */
+    bool v;            /* signed overflow */
+};
+
+static_assert(sizeof(struct paw_machine) == 36, "the library's layout has no padding");
+static_assert(offsetof(struct paw_machine, n) == 32, "the flags stand behind the registers");
+static_assert(offsetof(struct paw_machine, v) == 35, "a flag is one byte");
+
+/*
+ * Executes the instruction at the program counter, on this very machine and memory. Answers
+ * PAW_OK if it was completed, PAW_HALT, PAW_STOP_..., or PAW_MEMORY_SIZE; after all but PAW_OK,
+ * machine and memory are as they were.
+ */
+uint32_t paw_step(struct paw_machine *machine, uint8_t *memory, size_t memory_len);
+
+/*
+ * Executes up to `budget` instructions, on this very machine and memory. Answers how the run
+ * ended and how many steps were completed; the two functions below take the answer apart. A run
+ * that completes its whole budget ends by PAW_OK, even if HALT or a stop is next.
+ */
+uint64_t paw_run(struct paw_machine *machine, uint8_t *memory, size_t memory_len, uint32_t budget);
+
+/* How a run ended: PAW_OK (budget spent), PAW_HALT, PAW_STOP_... or PAW_MEMORY_SIZE. */
+static inline uint32_t paw_run_number(uint64_t answer)
+{
+    return (uint32_t)answer;
+}
+
+/* How many steps a run completed. */
+static inline uint32_t paw_run_steps(uint64_t answer)
+{
+    return (uint32_t)(answer >> 32);
+}
+
+/* Images ----------------------------------------------------------------------------------- */
+
+/* Puts checks 2 to 8 to an image file. Answers its layout or the refusal, as below. */
+uint64_t paw_check(const uint8_t *file, size_t len);
+
+/*
+ * Puts checks 2 to 14 to an image file: a program that passes never leaves its code, never
+ * touches data outside its window, and ends by HALT or a spent budget. Answers as paw_check.
+ */
+uint64_t paw_verify(const uint8_t *file, size_t len);
+
+/*
+ * Puts checks 1 to 14 to a memory and an image file. If all pass, copies the code to address 0,
+ * clears the window and touches no other byte. Answers as paw_check.
+ */
+uint64_t paw_load(const uint8_t *file, size_t len, uint8_t *memory, size_t memory_len);
+
+/* The number of an answer of paw_check, paw_verify or paw_load: PAW_OK or a refusal. */
+static inline uint16_t paw_answer_number(uint64_t answer)
+{
+    return (uint16_t)answer;
+}
+
+/* Where a refusal was made: the block for numbers 3 to 7, the byte address for 9 to 14, else 0. */
+static inline uint16_t paw_answer_place(uint64_t answer)
+{
+    return (uint16_t)(answer >> 16);
+}
+
+/* Of an answer whose number is PAW_OK: the length of the code in bytes. */
+static inline uint16_t paw_answer_code_bytes(uint64_t answer)
+{
+    return (uint16_t)(answer >> 16);
+}
+
+/* Of an answer whose number is PAW_OK: the byte address at which the window starts. */
+static inline uint16_t paw_answer_window_start(uint64_t answer)
+{
+    return (uint16_t)(answer >> 32);
+}
+
+/* Of an answer whose number is PAW_OK: the length of the window in bytes. */
+static inline uint16_t paw_answer_window_bytes(uint64_t answer)
+{
+    return (uint16_t)(answer >> 48);
+}
+
+/*
+ * What a reader of the file gives at its call number n, counted from 0. Answers PAW_BLOCK_BYTES
+ * if that is a block, which stands at byte n * PAW_BLOCK_BYTES of the file, or 0 if none is left
+ * or the file is refused by checks 2 to 8.
+ */
+size_t paw_block(const uint8_t *file, size_t len, size_t n);
+
+/* Bytes of the image of so many halfwords of code: the output that paw_pack asks for. */
+static inline size_t paw_image_bytes(size_t code_len)
+{
+    return (code_len / PAW_BLOCK_CODE + (code_len % PAW_BLOCK_CODE != 0)) * PAW_BLOCK_BYTES;
+}
+
+/*
+ * Puts checks 15, 8 and 16, then writes code and window (start and length in bytes) as an image
+ * that fills the output. Answers PAW_OK or the refusal's number. Does not verify the code.
+ */
+uint32_t paw_pack(const uint16_t *code, size_t code_len, uint16_t window_start,
+                  uint16_t window_bytes, uint8_t *out, size_t out_len);
+
+#ifdef __cplusplus
+}
+#endif
+
+#endif

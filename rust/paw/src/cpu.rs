@@ -1,0 +1,161 @@
+//! The machine: one step, and a run with a budget of steps.
+
+use std::fmt;
+use std::mem::{align_of, offset_of, size_of};
+
+use crate::{Refusal, ffi};
+
+/// Bytes in the address space.
+pub const MEMORY_BYTES: usize = 65_536;
+
+/// Index of the program counter among the registers.
+pub const PC: usize = 15;
+
+/// Registers and flags. A fresh one is all zeros, so its program counter is at address 0.
+#[repr(C)]
+#[derive(Clone, Copy, Debug, Default, PartialEq, Eq, Hash)]
+pub struct Machine {
+    /// R0 to R15; R15 is the program counter.
+    pub regs: [u16; 16],
+    /// Negative.
+    pub n: bool,
+    /// Zero.
+    pub z: bool,
+    /// Carry, or no borrow.
+    pub c: bool,
+    /// Signed overflow.
+    pub v: bool,
+}
+
+// The library reads and writes this very record, so it must lie as it does there.
+const _: () = {
+    assert!(size_of::<Machine>() == 36);
+    assert!(align_of::<Machine>() == 2);
+    assert!(offset_of!(Machine, regs) == 0);
+    assert!(offset_of!(Machine, n) == 32);
+    assert!(offset_of!(Machine, z) == 33);
+    assert!(offset_of!(Machine, c) == 34);
+    assert!(offset_of!(Machine, v) == 35);
+};
+
+/// Why the next instruction cannot be executed; its number is the one that the board's papers
+/// give it.
+#[derive(Clone, Copy, Debug, PartialEq, Eq, Hash)]
+#[repr(u8)]
+pub enum Stop {
+    /// The program counter is odd.
+    OddPc = 18,
+    /// The halfword at the program counter is undefined.
+    Undefined = 19,
+    /// A halfword load or store at an address that 4 does not divide.
+    Misaligned = 20,
+}
+
+impl Stop {
+    /// The stop's number.
+    pub const fn number(self) -> u8 {
+        self as u8
+    }
+}
+
+impl fmt::Display for Stop {
+    fn fmt(&self, f: &mut fmt::Formatter<'_>) -> fmt::Result {
+        let words = match self {
+            Stop::OddPc => "the program counter is odd",
+            Stop::Undefined => "the halfword at the program counter is no instruction",
+            Stop::Misaligned => "the address of a halfword is not a multiple of 4",
+        };
+        write!(f, "stop {}: {words}", self.number())
+    }
+}
+
+/// What became of one step.
+#[derive(Clone, Copy, Debug, PartialEq, Eq, Hash)]
+pub enum StepOutcome {
+    /// One instruction was executed.
+    Completed,
+    /// The program counter is at HALT; nothing changed.
+    Halted,
+    /// The next instruction cannot be executed; nothing changed.
+    Stopped(Stop),
+}
+
+/// Why a run ended.
+#[derive(Clone, Copy, Debug, PartialEq, Eq, Hash)]
+pub enum RunOutcome {
+    /// The budget is used up, whatever would have come next.
+    Spent,
+    /// The program counter is at HALT.
+    Halted,
+    /// The next instruction cannot be executed.
+    Stopped(Stop),
+}
+
+/// The end of a run.
+#[derive(Clone, Copy, Debug, PartialEq, Eq, Hash)]
+pub struct Run {
+    /// Why it ended.
+    pub outcome: RunOutcome,
+    /// How many steps were completed.
+    pub steps: u32,
+}
+
+/// What an answer's number says, apart from 0, which a step and a run read differently.
+enum Ending {
+    Halted,
+    Stopped(Stop),
+    Refused(Refusal),
+}
+
+impl Ending {
+    fn from_number(number: u32) -> Self {
+        match number {
+            18 => Ending::Stopped(Stop::OddPc),
+            19 => Ending::Stopped(Stop::Undefined),
+            20 => Ending::Stopped(Stop::Misaligned),
+            255 => Ending::Halted,
+            1 => Ending::Refused(Refusal::from_numbers(1, 0)),
+            _ => panic!("libpaw.a answers a step or run with {number}"),
+        }
+    }
+}
+
+/// Executes the instruction at the program counter, changing this very machine and memory. Check 1
+/// refuses a memory that does not have [`MEMORY_BYTES`].
+///
+/// ```
+/// use paw::{Machine, StepOutcome};
+///
+/// let mut memory = vec![0; paw::MEMORY_BYTES];
+/// memory[..2].copy_from_slice(&0x2307_u16.to_le_bytes()); // MOV R3, #7
+/// let mut machine = Machine::default();
+/// assert_eq!(paw::step(&mut machine, &mut memory), Ok(StepOutcome::Completed));
+/// assert_eq!((machine.regs[3], machine.regs[paw::PC]), (7, 2));
+/// assert_eq!(paw::step(&mut machine, &mut memory), Ok(StepOutcome::Halted));
+/// ```
+pub fn step(machine: &mut Machine, memory: &mut [u8]) -> Result<StepOutcome, Refusal> {
+    match ffi::step(machine, memory) {
+        0 => Ok(StepOutcome::Completed),
+        number => match Ending::from_number(number) {
+            Ending::Halted => Ok(StepOutcome::Halted),
+            Ending::Stopped(stop) => Ok(StepOutcome::Stopped(stop)),
+            Ending::Refused(refusal) => Err(refusal),
+        },
+    }
+}
+
+/// Executes up to `budget` instructions. Check 1 refuses a memory that does not have
+/// [`MEMORY_BYTES`].
+pub fn run(machine: &mut Machine, memory: &mut [u8], budget: u32) -> Result<Run, Refusal> {
+    let answer = ffi::run(machine, memory, budget);
+    let steps = (answer >> 32) as u32;
+    let outcome = match answer as u32 {
+        0 => RunOutcome::Spent,
+        number => match Ending::from_number(number) {
+            Ending::Halted => RunOutcome::Halted,
+            Ending::Stopped(stop) => RunOutcome::Stopped(stop),
+            Ending::Refused(refusal) => return Err(refusal),
+        },
+    };
+    Ok(Run { outcome, steps })
+}

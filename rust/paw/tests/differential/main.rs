@@ -1,0 +1,14 @@
+//! The proved library, through the safe wrapper, against the reference engine.
+//!
+//! One test program keeps the link time low. `PAW_LONG=1` in the environment makes the random
+//! tests twenty times longer.
+
+mod images;
+mod instructions;
+mod loader;
+mod packer;
+mod runs;
+mod steps;
+mod support;
+mod verifier;
+mod words;

@@ -1,0 +1,198 @@
+/*
+ * The library as firmware uses it, through paw.h: the sample program P is packed, checked,
+ * verified, loaded and run.
+ *
+ *     cc -std=c11 -Wall -Wextra -Werror -Iinclude tests/firmware.c target/staticlib/libpaw.a
+ */
+#include <stdio.h>
+#include <string.h>
+
+#include "paw.h"
+
+_Static_assert(sizeof(struct paw_machine) == 36, "size");
+_Static_assert(_Alignof(struct paw_machine) == 2, "alignment");
+_Static_assert(offsetof(struct paw_machine, regs) == 0, "regs");
+_Static_assert(offsetof(struct paw_machine, n) == 32, "n");
+_Static_assert(offsetof(struct paw_machine, z) == 33, "z");
+_Static_assert(offsetof(struct paw_machine, c) == 34, "c");
+_Static_assert(offsetof(struct paw_machine, v) == 35, "v");
+
+static int failures;
+
+#define EXPECT(condition)                                                                \
+    do {                                                                                 \
+        if (!(condition)) {                                                              \
+            fprintf(stderr, "%s:%d: not so: %s\n", __FILE__, __LINE__, #condition);      \
+            failures++;                                                                  \
+        }                                                                                \
+    } while (0)
+
+enum { CODE_LEN = 7, WINDOW_START = 256, WINDOW_BYTES = 256 };
+
+/* Masks R0 with 252, adds 256 and stores 252 there. */
+static const uint16_t code[CODE_LEN] = {
+    0x21FC, /* MOV R1, #252 */
+    0x4008, /* AND R0, R1 */
+    0x2280, /* MOV R2, #128 */
+    0x4412, /* ADD R2, R2 */
+    0x4410, /* ADD R0, R2 */
+    0x6001, /* STR R1, [R0, #0] */
+    0x0000, /* HALT */
+};
+
+static uint8_t file[PAW_BLOCK_BYTES];
+static uint8_t memory[PAW_MEMORY_BYTES];
+static uint8_t before[PAW_MEMORY_BYTES];
+
+static bool all_are(const uint8_t *bytes, size_t len, uint8_t value)
+{
+    for (size_t i = 0; i < len; i++) {
+        if (bytes[i] != value) {
+            return false;
+        }
+    }
+    return true;
+}
+
+static uint64_t layout_word(uint64_t code_bytes, uint64_t start, uint64_t length)
+{
+    return code_bytes << 16 | start << 32 | length << 48;
+}
+
+static void test_instructions(void)
+{
+    char date[18] = {0};
+    for (size_t i = 0; i < sizeof date; i++) {
+        date[i] = (char)paw_manual_date(i);
+    }
+    EXPECT(strcmp(date, "20 September 2015") == 0);
+
+    uint32_t word = paw_decode(0x6001);
+    EXPECT(paw_word_kind(word) == PAW_KIND_STR);
+    EXPECT(paw_word_field(word, 0) == 0 && paw_word_field(word, 1) == 0);
+    EXPECT(paw_word_field(word, 2) == 1);
+    EXPECT(word == paw_word(PAW_KIND_STR, 0, 0, 1));
+    EXPECT(paw_decode(0x0001) == PAW_KIND_NONE);
+
+    uint32_t encoded = paw_encode(paw_word(PAW_KIND_MOV_IMM, 1, 252, 0));
+    EXPECT(paw_encoded_number(encoded) == PAW_OK && paw_encoded_halfword(encoded) == 0x21FC);
+    EXPECT(paw_encode(paw_word(PAW_KIND_MOV_IMM, 8, 252, 0)) == PAW_FIELDS);
+}
+
+static void test_packing(void)
+{
+    memset(file, 0xEE, sizeof file);
+    EXPECT(paw_image_bytes(CODE_LEN) == sizeof file);
+    EXPECT(paw_pack(code, 0, 256, 256, file, sizeof file) == PAW_CODE_LENGTH);
+    EXPECT(paw_pack(code, CODE_LEN, 257, 256, file, sizeof file) == PAW_WINDOW);
+    EXPECT(paw_pack(code, CODE_LEN, 256, 256, file, sizeof file - 1) == PAW_OUTPUT_LENGTH);
+    EXPECT(all_are(file, sizeof file, 0xEE));
+
+    EXPECT(paw_pack(code, CODE_LEN, WINDOW_START, WINDOW_BYTES, file, sizeof file) == PAW_OK);
+    EXPECT(file[0] == 0xC1 && file[1] == 0xD0);
+    EXPECT(file[510] == 0x90 && file[511] == 0xC0);
+}
+
+static void test_checking(void)
+{
+    uint64_t answer = paw_check(file, sizeof file);
+    EXPECT(answer == layout_word(14, 256, 256));
+    EXPECT(paw_answer_number(answer) == PAW_OK);
+    EXPECT(paw_answer_code_bytes(answer) == 2 * CODE_LEN);
+    EXPECT(paw_answer_window_start(answer) == WINDOW_START);
+    EXPECT(paw_answer_window_bytes(answer) == WINDOW_BYTES);
+    EXPECT(paw_check(file, sizeof file - 1) == PAW_FILE_LENGTH);
+
+    EXPECT(paw_block(file, sizeof file, 0) == PAW_BLOCK_BYTES);
+    EXPECT(paw_block(file, sizeof file, 1) == 0);
+    EXPECT(paw_block(file, sizeof file - 1, 0) == 0);
+}
+
+static void test_verifying(void)
+{
+    EXPECT(paw_verify(file, sizeof file) == layout_word(14, 256, 256));
+
+    static uint8_t small[PAW_BLOCK_BYTES];
+    EXPECT(paw_pack(code, CODE_LEN, WINDOW_START, 252, small, sizeof small) == PAW_OK);
+    uint64_t answer = paw_verify(small, sizeof small);
+    EXPECT(paw_answer_number(answer) == PAW_OUT_OF_WINDOW && paw_answer_place(answer) == 10);
+    EXPECT(answer == (10 | 10 << 16));
+}
+
+static void test_loading(void)
+{
+    memset(memory, 0xEE, sizeof memory);
+    EXPECT(paw_load(file, sizeof file, memory, sizeof memory - 1) == PAW_MEMORY_SIZE);
+    EXPECT(paw_load(file, sizeof file - 1, memory, sizeof memory) == PAW_FILE_LENGTH);
+    EXPECT(all_are(memory, sizeof memory, 0xEE));
+
+    EXPECT(paw_load(file, sizeof file, memory, sizeof memory) == layout_word(14, 256, 256));
+    for (size_t i = 0; i < CODE_LEN; i++) {
+        EXPECT(memory[2 * i] == code[i] % 256 && memory[2 * i + 1] == code[i] / 256);
+    }
+    EXPECT(all_are(memory + 14, 256 - 14, 0xEE));
+    EXPECT(all_are(memory + 256, 256, 0));
+    EXPECT(all_are(memory + 512, PAW_MEMORY_BYTES - 512, 0xEE));
+}
+
+/* 0xBEEF masked with 252 is 236, and 256 more are 492. */
+static void test_running(void)
+{
+    struct paw_machine machine = {.regs = {0xBEEF}, .n = true, .z = true, .c = true, .v = true};
+    memset(memory + WINDOW_START, 0xA5, WINDOW_BYTES); /* shows both bytes of the store */
+    memcpy(before, memory, sizeof memory);
+
+    EXPECT(paw_run(&machine, memory, sizeof memory - 1, 1000) == PAW_MEMORY_SIZE);
+    EXPECT(paw_run(&machine, memory, sizeof memory, 0) == PAW_OK);
+    EXPECT(machine.regs[0] == 0xBEEF && machine.regs[15] == 0);
+
+    EXPECT(paw_step(&machine, memory, sizeof memory) == PAW_OK);
+    EXPECT(machine.regs[1] == 252 && machine.regs[15] == 2);
+    EXPECT(!machine.n && !machine.z && machine.c && machine.v);
+
+    uint64_t spent = paw_run(&machine, memory, sizeof memory, 3);
+    EXPECT(paw_run_number(spent) == PAW_OK && paw_run_steps(spent) == 3);
+    EXPECT(machine.regs[0] == 236 && machine.regs[2] == 256 && machine.regs[15] == 8);
+    EXPECT(memcmp(memory, before, sizeof memory) == 0);
+
+    uint64_t halted = paw_run(&machine, memory, sizeof memory, UINT32_MAX);
+    EXPECT(paw_run_number(halted) == PAW_HALT && paw_run_steps(halted) == 2);
+    EXPECT(machine.regs[0] == 492 && machine.regs[1] == 252 && machine.regs[2] == 256);
+    EXPECT(machine.regs[3] == 0 && machine.regs[14] == 0 && machine.regs[15] == 12);
+    EXPECT(!machine.n && !machine.z && !machine.c && !machine.v);
+    EXPECT(paw_step(&machine, memory, sizeof memory) == PAW_HALT);
+    EXPECT(machine.regs[15] == 12);
+
+    before[492] = 252;
+    before[493] = 0;
+    EXPECT(memcmp(memory, before, sizeof memory) == 0);
+}
+
+static void test_stops(void)
+{
+    struct paw_machine machine = {.regs = {[0] = 2, [15] = 1}};
+    memcpy(before, memory, sizeof memory);
+    EXPECT(paw_step(&machine, memory, sizeof memory) == PAW_STOP_ODD_PC);
+    machine.regs[15] = 14; /* behind the code: 0xEEEE */
+    EXPECT(paw_step(&machine, memory, sizeof memory) == PAW_STOP_UNDEFINED);
+    machine.regs[15] = 10; /* STR R1, [R0, #0], with 2 in R0 */
+    EXPECT(paw_step(&machine, memory, sizeof memory) == PAW_STOP_MISALIGNED);
+    EXPECT(paw_run(&machine, memory, sizeof memory, 5) == PAW_STOP_MISALIGNED);
+    EXPECT(machine.regs[0] == 2 && machine.regs[15] == 10);
+    EXPECT(memcmp(memory, before, sizeof memory) == 0);
+}
+
+int main(void)
+{
+    test_instructions();
+    test_packing();
+    test_checking();
+    test_verifying();
+    test_loading();
+    test_running();
+    test_stops();
+    if (failures == 0) {
+        printf("firmware: P packs, verifies, loads and runs through paw.h\n");
+    }
+    return failures != 0;
+}
