@@ -1,6 +1,6 @@
 //! Times of the proved library as ratios to those of the reference engine.
 //!
-//! `cargo run --release -p bench` takes about half a minute; `-- --quick` makes a tenth of the
+//! `cargo run --release -p bench` takes about a minute; `-- --quick` makes a tenth of the
 //! steps.
 
 mod engine;
@@ -34,7 +34,7 @@ fn main() -> ExitCode {
             return ExitCode::from(2);
         }
     };
-    println!("{ABOUT}\n{:<44} {:>10} {:>10} {:>6}", "", "library", "reference", "ratio");
+    println!("{ABOUT}\n{:<36} {:>12} {:>12} {:>6}", "", "library", "reference", "ratio");
     for (name, program) in programs::all() {
         let what = format!("{name}, {} million steps", steps / 1_000_000);
         print_row(&what, shortest_run(ROUNDS_OF_RUNS, steps, &program));
@@ -44,12 +44,12 @@ fn main() -> ExitCode {
 }
 
 fn print_row(what: &str, times: Times) {
-    let [library, reference] = [times.library, times.reference].map(milliseconds);
-    println!("{what:<44} {library:>10} {reference:>10} {:>6.2}", times.ratio());
+    let [library, reference] = [times.library, times.reference].map(microseconds);
+    println!("{what:<36} {library:>12} {reference:>12} {:>6.2}", times.ratio());
 }
 
-fn milliseconds(time: Duration) -> String {
-    format!("{:.4} ms", 1_000.0 * time.as_secs_f64())
+fn microseconds(time: Duration) -> String {
+    format!("{:.2} us", 1_000_000.0 * time.as_secs_f64())
 }
 
 /// Checking and verifying. One image of 64 blocks has as many instructions as 64 images of one
