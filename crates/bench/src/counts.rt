@@ -5,6 +5,11 @@ use super::console::print_number;
 use isa::Decoded;
 use verifier::Verdict;
 
+struct Totals {
+    defined: u64,
+    fit: u64,
+}
+
 fn is_defined(h: u16) -> bool {
     match isa::decode(h) {
         Decoded::Defined(_) => true,
@@ -12,6 +17,7 @@ fn is_defined(h: u16) -> bool {
     }
 }
 
+// Whether the code of a halfword and HALT is fit.
 fn is_fit(h: u16) -> bool {
     let mut block = [0u8; 512];
     let code = [h, 0];
@@ -22,35 +28,27 @@ fn is_fit(h: u16) -> bool {
     }
 }
 
-fn count_defined() -> u64 {
-    let mut n: u64 = 0;
-    let mut h: u64 = 0;
-    while h < 65536 {
-        if is_defined((h % 65536) as u16) {
-            n += 1;
+// Goes through all halfwords.
+fn count_all() -> Totals {
+    let mut defined: u64 = 0;
+    let mut fit: u64 = 0;
+    for h in 0..=0xFFFFu16 {
+        if is_defined(h) {
+            defined += 1;
         }
-        h += 1;
-    }
-    n
-}
-
-fn count_fit() -> u64 {
-    let mut n: u64 = 0;
-    let mut h: u64 = 0;
-    while h < 65536 {
-        if is_fit((h % 65536) as u16) {
-            n += 1;
+        if is_fit(h) {
+            fit += 1;
         }
-        h += 1;
     }
-    n
+    Totals { defined, fit }
 }
 
 pub(crate) fn print_totals() {
+    let totals = count_all();
     print(b"defined halfwords: ");
-    print_number(count_defined());
+    print_number(totals.defined);
     print(b"\n");
     print(b"fit codes of two instructions, the second 0x0000: ");
-    print_number(count_fit());
+    print_number(totals.fit);
     print(b"\n");
 }

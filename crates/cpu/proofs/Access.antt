@@ -1,10 +1,14 @@
--- Loads and stores: what their parts put together.
-use Prim.Native.Nat.{ℕ, _+_, _*_, _%_}
+-- Loads and stores, and how any instruction ends: what their parts put together.
+use Prim.Native.Nat.{ℕ, _+_, _*_, _%_, _<_}
 use mathlib.Core.List.{List}
-use mathlib.Core.Path.{_≡_, refl}
-use lib.ListN.{getD}
+use mathlib.Core.Path.{_≡_, refl, sym, _∙_}
+use lib.ListN.{getD, set}
 use borrow.Author.Tests.{eq-eqb, ne-eqb}
 use Rattle.isa.specs.Address.{wrap}
+use Rattle.isa.specs.declared.decoder.Decoded.{Decoded}
+use Rattle.isa.specs.declared.decoder.Decoded.the-variants.{Defined, Undefined}
+use Rattle.isa.specs.declared.instruction.Instruction.{Instruction}
+use Rattle.cpu.specs.declared.status.Status.{Status}
 use Rattle.cpu.specs.declared.held.Control.{Control}
 use Rattle.cpu.specs.declared.held.Executed.{Executed}
 use Rattle.cpu.specs.declared.machine.Machine.{Machine}
@@ -12,9 +16,9 @@ use Rattle.cpu.specs.declared.stepper.Outcome.{Outcome}
 use Rattle.cpu.specs.declared.stepper.Outcome.the-variants.{Completed, Stopped}
 use Rattle.cpu.specs.Machine.{machine, advanced, written}
 use Rattle.cpu.specs.Memory.{halfwordAt, withByte, withHalfword}
-use Rattle.isa.specs.declared.instruction.Instruction.{Instruction}
-use Rattle.cpu.specs.Step.{stepResult, ldrOf, strOf, strbOf, executeOf}
-use Rattle.cpu.specs.Held.{flagsIn, held, Current, Holds, Leads}
+use Rattle.cpu.specs.Step.{stepResult, ldrOf, strOf, strbOf, executeOf, executeDecoded}
+use Rattle.cpu.specs.Held.{statusIn, flagsIn, held, control, Whole, Holds, Leads}
+use Rattle.cpu.proofs.Ends.{low-is, advance-holds}
 
 -- a control, and an ending beside it
 abbrev pub Gave : Executed → Control → Outcome → Type 0
@@ -23,43 +27,50 @@ Gave e k outcome = (e .control ≡ k) × (e .outcome ≡ outcome)
 -- a machine that is held, and an ending beside it
 pub leads : (regs memory : List ℕ) (e : Executed) (k : Control) (outcome : Outcome) (m : Machine) → Gave e k outcome → Holds regs k m
     → Leads regs e memory (stepResult m memory outcome)
-leads regs memory e k outcome m gave holds = record { result = rw (gave .0, gave .1, holds .machine); copy = rw (gave .0) (holds .copy) }
+leads regs memory e k outcome m gave holds = record { result = rw (gave .0, gave .1, holds .machine); whole = holds .whole }
 
 -- nothing has changed
-pub stays : (regs memory : List ℕ) (e : Executed) (k : Control) (outcome : Outcome) → Gave e k outcome → Current regs k
+pub stays : (regs memory : List ℕ) (e : Executed) (k : Control) (outcome : Outcome) → Gave e k outcome → Whole regs
     → Leads regs e memory (stepResult (held regs k) memory outcome)
-stays regs memory e k outcome gave copy = leads regs memory e k outcome (held regs k) gave (record { machine = refl; copy = copy })
+stays regs memory e k outcome gave whole = leads regs memory e k outcome (held regs k) gave (record { machine = refl; whole = whole })
 
-module _ (regs memory : List ℕ) (k : Control) (offset rb rd a : ℕ) (e : Executed) where
+-- a halfword whose meaning is known
+pub leads-as : (d known : Decoded) (regs memory′ memory : List ℕ) (e : Executed) (m : Machine) → d ≡ known
+    → Leads regs e memory′ (executeDecoded known m memory) → Leads regs e memory′ (executeDecoded d m memory)
+leads-as d known regs memory′ memory e m is done = rw is done
+
+module _ (regs memory : List ℕ) (k : Control) (offset rb rd a : ℕ) (e : Executed) (whole : Whole regs) (low-base : rb < 8) where
   module _ (address : a ≡ wrap (getD regs rb 0 + 4 * offset)) where
-    pub ldr-stops : (a % 4 ≡ 0 → ⊥) → Gave e k (Stopped 20) → Current regs k → Leads regs e memory (ldrOf offset rb rd (held regs k) memory)
+    pub ldr-stops : (a % 4 ≡ 0 → ⊥) → Gave e k (Stopped 20) → Leads regs e memory (ldrOf offset rb rd (held regs k) memory)
     unfolding ldrOf
-    ldr-stops odd gave copy = simp (← address, ne-eqb (a % 4) 0 odd) (stays regs memory e k (Stopped 20) gave copy)
+    ldr-stops odd gave =
+        simp (low-is regs (k .pc) whole rb low-base, ← address, ne-eqb (a % 4) 0 odd) (stays regs memory e k (Stopped 20) gave whole)
 
     pub ldr-completes : a % 4 ≡ 0 → (regs′ : List ℕ) (k′ : Control) (x : ℕ) → Gave e k′ Completed → x ≡ halfwordAt memory a
-        → Holds regs′ k′ (machine (written regs rd x) (flagsIn k)) → Leads regs′ e memory (ldrOf offset rb rd (held regs k) memory)
+        → Holds regs′ k′ (machine (written (set regs 15 (k .pc)) rd x) (flagsIn (statusIn k))) → Leads regs′ e memory (ldrOf offset rb rd (held regs k) memory)
     unfolding ldrOf
     ldr-completes even regs′ k′ x gave loaded holds =
-        simp (← address, eq-eqb (a % 4) 0 even, ← loaded) (leads regs′ memory e k′ Completed (machine (written regs rd x) (flagsIn k)) gave holds)
+        simp (low-is regs (k .pc) whole rb low-base, ← address, eq-eqb (a % 4) 0 even, ← loaded)
+        (leads regs′ memory e k′ Completed (machine (written (set regs 15 (k .pc)) rd x) (flagsIn (statusIn k))) gave holds)
 
-    pub str-stops : (a % 4 ≡ 0 → ⊥) → Gave e k (Stopped 20) → Current regs k → Leads regs e memory (strOf offset rb rd (held regs k) memory)
-    unfolding strOf
-    str-stops odd gave copy = simp (← address, ne-eqb (a % 4) 0 odd) (stays regs memory e k (Stopped 20) gave copy)
+    module _ (low : rd < 8) where
+      pub str-stops : (a % 4 ≡ 0 → ⊥) → Gave e k (Stopped 20) → Leads regs e memory (strOf offset rb rd (held regs k) memory)
+      unfolding strOf
+      str-stops odd gave =
+          simp (low-is regs (k .pc) whole rb low-base, ← address, ne-eqb (a % 4) 0 odd) (stays regs memory e k (Stopped 20) gave whole)
 
-    pub str-completes : a % 4 ≡ 0 → (regs′ memory′ : List ℕ) (k′ : Control) → Gave e k′ Completed → memory′ ≡ withHalfword memory a (getD regs rd 0)
-        → Holds regs′ k′ (machine (advanced regs) (flagsIn k)) → Leads regs′ e memory′ (strOf offset rb rd (held regs k) memory)
-    unfolding strOf
-    str-completes even regs′ memory′ k′ gave stored holds =
-        simp (← address, eq-eqb (a % 4) 0 even, ← stored) (leads regs′ memory′ e k′ Completed (machine (advanced regs) (flagsIn k)) gave holds)
+      pub str-completes : a % 4 ≡ 0 → (memory′ : List ℕ) → Gave e (control (wrap (k .pc + 2)) (statusIn k)) Completed
+          → memory′ ≡ withHalfword memory a (getD regs rd 0) → Leads regs e memory′ (strOf offset rb rd (held regs k) memory)
+      unfolding strOf
+      str-completes even memory′ gave stored =
+          simp (low-is regs (k .pc) whole rb low-base, low-is regs (k .pc) whole rd low, ← address, eq-eqb (a % 4) 0 even, ← stored)
+          (leads regs memory′ e (control (wrap (k .pc + 2)) (statusIn k)) Completed (machine (advanced (set regs 15 (k .pc))) (flagsIn (statusIn k))) gave
+          (advance-holds regs (k .pc) whole _ (statusIn k) _ refl refl))
 
-  pub strb-completes : a ≡ wrap (getD regs rb 0 + offset) → (regs′ memory′ : List ℕ) (k′ : Control) → Gave e k′ Completed
-      → memory′ ≡ withByte memory a (getD regs rd 0) → Holds regs′ k′ (machine (advanced regs) (flagsIn k))
-      → Leads regs′ e memory′ (strbOf offset rb rd (held regs k) memory)
+  pub strb-completes : a ≡ wrap (getD regs rb 0 + offset) → rd < 8 → (memory′ : List ℕ) → Gave e (control (wrap (k .pc + 2)) (statusIn k)) Completed
+      → memory′ ≡ withByte memory a (getD regs rd 0) → Leads regs e memory′ (strbOf offset rb rd (held regs k) memory)
   unfolding strbOf
-  strb-completes address regs′ memory′ k′ gave stored holds =
-      simp (← address, ← stored) (leads regs′ memory′ e k′ Completed (machine (advanced regs) (flagsIn k)) gave holds)
-
--- an instruction that is known
-pub execute-as : {i j : Instruction} (regs memory memory′ : List ℕ) (e : Executed) (m : Machine) → i ≡ j
-    → Leads regs e memory′ (executeOf j m memory) → Leads regs e memory′ (executeOf i m memory)
-execute-as regs memory memory′ e m same done = rw same done
+  strb-completes address low memory′ gave stored =
+      simp (low-is regs (k .pc) whole rb low-base, low-is regs (k .pc) whole rd low, ← address, ← stored)
+      (leads regs memory′ e (control (wrap (k .pc + 2)) (statusIn k)) Completed (machine (advanced (set regs 15 (k .pc))) (flagsIn (statusIn k))) gave
+      (advance-holds regs (k .pc) whole _ (statusIn k) _ refl refl))

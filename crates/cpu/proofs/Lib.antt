@@ -1,7 +1,7 @@
 pub mod Ends
 pub mod Sums
+pub mod States
 pub mod Access
-pub mod Branches
-pub mod Narrow
+pub mod Formats
 pub mod Fetch
 pub mod Runs

@@ -6,7 +6,7 @@ use lib.Dec.{eqb, leb, ltb}
 use lib.ListN.{getD}
 use Rattle.isa.specs.Address.{wrap}
 use Rattle.isa.specs.Field.{field}
-use Rattle.cpu.specs.declared.machine.Flags.{Flags}
+use Rattle.cpu.specs.Machine.{Flags}
 
 -- bit 15
 abbrev pub negative : ℕ → Bool

@@ -1,56 +1,97 @@
--- How the code holds a machine while it works: registers in an array, and by value beside it the flags and a second copy of the PC.
+-- How the code holds a machine while it works: registers in an array, and by value beside it the PC and the flags.
 -- Only the contracts of private functions speak of it.
-use mathlib.Core.List.{List}
+use mathlib.Core.Bool.{cond}
+use mathlib.Core.List.{List, [], _∷_}
 use mathlib.Core.Path.{_≡_}
-use Prim.Native.Nat.{ℕ, _<_}
-use lib.ListN.{getD}
-use Rattle.isa.specs.declared.instruction.Instruction.{Instruction}
-use Rattle.isa.specs.declared.instruction.Instruction.the-variants.{MovImm, CmpImm, And, Eor, Asr, Tst, Neg, Cmp, AddHigh, CmpHigh, MovHigh, Str, Ldr, Strb, Ldrb, AddPc, Branch, Halt}
-use Rattle.cpu.specs.declared.machine.Flags.{Flags}
+use Prim.Native.Nat.{ℕ, _+_, _%_}
+use lib.Dec.{eqb}
+use lib.ListN.{getD, length, set}
+use Rattle.isa.specs.declared.decoder.Decoded.{Decoded}
+use Rattle.isa.specs.Address.{wrap, branchTargetOf}
 use Rattle.cpu.specs.declared.machine.Machine.{Machine}
+use Rattle.cpu.specs.declared.status.Status.{Status}
 use Rattle.cpu.specs.declared.held.Control.{Control}
 use Rattle.cpu.specs.declared.held.Executed.{Executed}
-use Rattle.cpu.specs.Machine.{machine}
-use Rattle.cpu.specs.Step.{StepResult, stepResult}
+use Rattle.cpu.specs.declared.stepper.Outcome.{Outcome}
+use Rattle.cpu.specs.declared.stepper.Outcome.the-variants.{Completed, Halted, Stopped, Refused}
+use Rattle.cpu.specs.declared.runner.RunOutcome.{RunOutcome}
+use Rattle.cpu.specs.declared.runner.RunOutcome.the-variants as ended
+use Rattle.cpu.specs.Machine.{Flags, machine}
+use Rattle.cpu.specs.Alu.{negative, conditionOf}
+use Rattle.cpu.specs.Step.{StepResult, stepResult, executeDecoded}
 
-abbrev pub flagsIn : Control → Flags
-flagsIn k = record { n = k .n; z = k .z; c = k .c; v = k .v }
+-- N and Z speak of the result that is held
+abbrev pub flagsIn : Status → Flags
+flagsIn s = record { n = negative (s .result); z = eqb (s .result % 65536) 0; c = s .c; v = s .v }
 
--- the machine that is held
+abbrev pub control : ℕ → Status → Control
+control pc s = record { pc = pc; result = s .result; c = s .c; v = s .v }
+
+abbrev pub statusIn : Control → Status
+statusIn k = record { result = k .result; c = k .c; v = k .v }
+
+-- the machine that is held; R15 is the PC beside the array
 abbrev pub held : List ℕ → Control → Machine
-held regs k = machine regs (flagsIn k)
+held regs k = machine (set regs 15 (k .pc)) (flagsIn (statusIn k))
 
--- the copy of the PC is true
-abbrev pub Current : List ℕ → Control → Type 0
-Current regs k = k .pc ≡ getD regs 15 0
+-- the array has all sixteen
+abbrev pub Whole : List ℕ → Type 0
+Whole regs = length regs ≡ 16
 
--- a machine is held, with a true copy of its PC
+-- a machine is held
 pub record Holds (regs : List ℕ) (k : Control) (m : Machine) : Type 0 where
   pub machine : held regs k ≡ m
-  pub copy : Current regs k
+  pub whole : Whole regs
 
 -- and a step's result
 pub record Leads (regs : List ℕ) (e : Executed) (memory : List ℕ) (r : StepResult) : Type 0 where
   pub result : stepResult (held regs (e .control)) memory (e .outcome) ≡ r
-  pub copy : Current regs (e .control)
+  pub whole : Whole regs
 
--- the fields of an instruction hold no more than their bits can: R0 to R7 but in the format for high registers
-abbrev pub Narrow : Instruction → Type 0
-Narrow (MovImm rd imm) = (rd < 8) × (imm < 256)
-Narrow (CmpImm rd imm) = (rd < 8) × (imm < 256)
-Narrow (And rs rd) = (rs < 8) × (rd < 8)
-Narrow (Eor rs rd) = (rs < 8) × (rd < 8)
-Narrow (Asr rs rd) = (rs < 8) × (rd < 8)
-Narrow (Tst rs rd) = (rs < 8) × (rd < 8)
-Narrow (Neg rs rd) = (rs < 8) × (rd < 8)
-Narrow (Cmp rs rd) = (rs < 8) × (rd < 8)
-Narrow (AddHigh rs rd) = (rs < 16) × (rd < 16)
-Narrow (CmpHigh rs rd) = (rs < 16) × (rd < 16)
-Narrow (MovHigh rs rd) = (rs < 16) × (rd < 16)
-Narrow (Str offset rb rd) = (offset < 32) × (rb < 8) × (rd < 8)
-Narrow (Ldr offset rb rd) = (offset < 32) × (rb < 8) × (rd < 8)
-Narrow (Strb offset rb rd) = (offset < 32) × (rb < 8) × (rd < 8)
-Narrow (Ldrb offset rb rd) = (offset < 32) × (rb < 8) × (rd < 8)
-Narrow (AddPc rd imm) = (rd < 8) × (imm < 256)
-Narrow (Branch condition offset) = (condition < 16) × (offset < 256)
-Narrow Halt = Unit {0}
+-- what an instruction that leaves memory alone does, whatever memory it stands above
+abbrev pub Above : List ℕ → Executed → Decoded → Machine → Type 0
+Above regs e d m = (memory : List ℕ) → Leads regs e memory (executeDecoded d m memory)
+
+-- and one that leaves the registers alone as well, whatever they are
+abbrev pub Beside : Executed → Control → Decoded → Type 0
+Beside e k d = (regs : List ℕ) → Whole regs → Above regs e d (held regs k)
+
+-- the flags as a number of four bits
+abbrev pub stateOf : Flags → ℕ
+stateOf f = cond (f .n) 8 0 + cond (f .z) 4 0 + cond (f .c) 2 0 + cond (f .v) 1 0
+
+-- for each condition, a bit for each state of the flags: set where it holds
+abbrev pub stateTable : List ℕ
+stateTable =
+    0xF0F0
+    ∷ 0x0F0F
+    ∷ 0xCCCC
+    ∷ 0x3333
+    ∷ 0xFF00
+    ∷ 0x00FF
+    ∷ 0xAAAA
+    ∷ 0x5555
+    ∷ 0x0C0C
+    ∷ 0xF3F3
+    ∷ 0xAA55
+    ∷ 0x55AA
+    ∷ 0x0A05
+    ∷ 0xF5FA
+    ∷ []
+
+abbrev pub statesOf : ℕ → ℕ
+statesOf k = getD stateTable k 0
+
+-- what a branch leaves beside the registers
+abbrev pub branched : ℕ → ℕ → Control → Control
+branched condition offset k =
+    control
+    (cond (conditionOf condition (flagsIn (statusIn k))) (branchTargetOf (record { 0 = k .pc }) offset .0) (wrap (k .pc + 2)))
+    (statusIn k)
+
+-- how a run of one step ended, as a step's end
+abbrev pub asStep : RunOutcome → Outcome
+asStep ended.Spent = Completed
+asStep ended.Halted = Halted
+asStep (ended.Stopped number) = Stopped number
+asStep (ended.Refused r) = Refused r

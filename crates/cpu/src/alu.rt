@@ -1,20 +1,20 @@
 // Results and flags. Sums, and differences as sums with the negated operand,
 // are the standard library's wrapping addition.
-use super::machine::Flags;
-ghost use mathlib.Core.Bool.{_&&_, _||_};
+use super::status::Status;
+ghost use mathlib.Core.Bool.{_&&_};
 ghost use mathlib.Core.Path.{_≡_};
 ghost use Prim.Native.Nat.{_<_};
-ghost use Rattle.cpu.specs.Alu.{resultFlags, signsDiffer, sumOf, sumFlags, differenceOf, differenceFlags, shiftedOf, shiftOf, shiftCarry, shiftFlags, conditionOf};
+ghost use Rattle.cpu.specs.Alu.{resultFlags, signsDiffer, sumOf, sumFlags, differenceOf, differenceFlags, shiftedOf, shiftOf, shiftCarry, shiftFlags};
+ghost use Rattle.cpu.specs.Held.{flagsIn};
 
 // N and Z of a result.
-pub(crate) fn result_flags(r: u16, f: Flags) -> Flags
-    ensures { λ g. ⌜ g ≡ resultFlags r f ⌝ }
+pub(crate) fn result_status(r: u16, s: Status) -> Status
+    ensures { λ g. ⌜ flagsIn g ≡ resultFlags r (flagsIn s) ⌝ }
 {
-    Flags {
-        n: r >= 0x8000,
-        z: r == 0,
-        c: f.c,
-        v: f.v,
+    Status {
+        result: r as u32,
+        c: s.c,
+        v: s.v,
     }
 }
 
@@ -44,46 +44,38 @@ fn both(a: bool, b: bool) -> bool
     a && b
 }
 
-fn either(a: bool, b: bool) -> bool
-    ensures { λ r. ⌜ r ≡ (a || b) ⌝ }
-{
-    a || b
-}
-
 // The flags of a sum r of a and b: it wrapped where it is below a.
-pub(crate) fn sum_flags(a: u16, b: u16, r: u16) -> Flags
+pub(crate) fn sum_status(a: u16, b: u16, r: u16) -> Status
     requires { ⌜ r ≡ sumOf a b ⌝ }
-    ensures { λ g. ⌜ g ≡ sumFlags a b ⌝ }
+    ensures { λ g. ⌜ flagsIn g ≡ sumFlags a b ⌝ }
 {
     let v = both(signs_differ(a, r), signs_differ(b, r));
-    Flags {
-        n: r >= 0x8000,
-        z: r == 0,
+    Status {
+        result: r as u32,
         c: r < a,
         v,
     }
 }
 
 // The flags of a difference r of a and b.
-pub(crate) fn difference_flags(a: u16, b: u16, r: u16) -> Flags
+pub(crate) fn difference_status(a: u16, b: u16, r: u16) -> Status
     requires { ⌜ r ≡ differenceOf a b ⌝ }
-    ensures { λ g. ⌜ g ≡ differenceFlags a b ⌝ }
+    ensures { λ g. ⌜ flagsIn g ≡ differenceFlags a b ⌝ }
 {
     let v = both(signs_differ(a, b), signs_differ(a, r));
-    Flags {
-        n: r >= 0x8000,
-        z: r == 0,
+    Status {
+        result: r as u32,
         c: b <= a,
         v,
     }
 }
 
 // The flags of a - b, of which a comparison keeps nothing else.
-pub(crate) fn compare(a: u16, b: u16) -> Flags
-    ensures { λ g. ⌜ g ≡ differenceFlags a b ⌝ }
+pub(crate) fn compare(a: u16, b: u16) -> Status
+    ensures { λ g. ⌜ flagsIn g ≡ differenceFlags a b ⌝ }
 {
     let r = difference(a, b);
-    difference_flags(a, b, r)
+    difference_status(a, b, r)
 }
 
 // a shifted right by k bits with its sign coming in.
@@ -124,42 +116,14 @@ fn shift_carry(a: u16, k: u16, c: bool) -> bool
 }
 
 // The flags of ASR's result r of a and k.
-pub(crate) fn shift_flags(a: u16, k: u16, r: u16, f: Flags) -> Flags
+pub(crate) fn shift_status(a: u16, k: u16, r: u16, s: Status) -> Status
     requires { ⌜ r ≡ shiftOf a k ⌝ }
-    ensures { λ g. ⌜ g ≡ shiftFlags a k f ⌝ }
+    ensures { λ g. ⌜ flagsIn g ≡ shiftFlags a k (flagsIn s) ⌝ }
 {
-    let c = shift_carry(a, k, f.c);
-    Flags {
-        n: r >= 0x8000,
-        z: r == 0,
+    let c = shift_carry(a, k, s.c);
+    Status {
+        result: r as u32,
         c,
-        v: f.v,
-    }
-}
-
-// Whether a branch's condition holds. The numbers 14 and up are no conditions.
-pub(crate) fn condition(k: u8, f: Flags) -> bool
-    ensures { λ r. ⌜ r ≡ conditionOf k f ⌝ }
-{
-    let n = f.n;
-    let z = f.z;
-    let c = f.c;
-    let v = f.v;
-    match k {
-        0 => z,
-        1 => !z,
-        2 => c,
-        3 => !c,
-        4 => n,
-        5 => !n,
-        6 => v,
-        7 => !v,
-        8 => both(c, !z),
-        9 => either(!c, z),
-        10 => n == v,
-        11 => n != v,
-        12 => both(!z, n == v),
-        13 => either(z, n != v),
-        _ => false,
+        v: s.v,
     }
 }

@@ -1,51 +1,139 @@
-// From an instruction to the function that does it.
+// A step on a machine that is held: the halfword at the PC is fetched and, by its
+// fields, sent to the function of its instruction. To make an `Instruction` of
+// it first, only to take that apart again, would cost a run more than the
+// instructions themselves.
 use super::held::Control;
 use super::held::Executed;
 use super::held::completed;
+use super::held::stopped;
 use super::instructions;
+use super::memory::load_halfword;
 use super::stepper::Outcome;
-use isa::Instruction;
+use isa::bits;
+use isa::high_rd;
+use isa::high_rs;
 ghost use mathlib.Core.Path.{_≡_};
 ghost use lib.ListN.{length};
+ghost use Rattle.isa.specs.Field.{field};
+ghost use Rattle.isa.specs.Decode.{haltOf, aluOf, highOf, registersOf, branchOf, decodeOf};
 ghost use Rattle.cpu.specs.Memory.{memorySize};
-ghost use Rattle.cpu.specs.Step.{executeOf};
-ghost use Rattle.cpu.specs.Held.{held, Current, Leads, Narrow};
+ghost use Rattle.cpu.specs.Step.{executeDecoded, fetchAndExecute};
+ghost use Rattle.cpu.specs.Held.{held, Whole, Leads, Above, Beside};
 
-// Does an instruction on a machine that is held and its memory.
-pub(crate) fn execute(
-    regs: &mut [u16; 16],
-    k: Control,
-    memory: &mut [u8],
-    i: Instruction,
-) -> Executed
-    requires { ⌜ Current (now regs) k × (length (now memory) ≡ memorySize) × Narrow i ⌝ }
-    ensures { λ r. ⌜ Leads (now (regs .exit)) r (now (memory .exit)) (executeOf i (held (now (regs .entry)) k) (now (memory .entry))) ⌝ }
+// HALT, or a halfword that only begins like it.
+fn execute_halt(k: Control, h: u16) -> Executed
+    ensures { λ r. ⌜ Beside r k (haltOf h) ⌝ }
 {
-    match i {
-        Instruction::MovImm { rd, imm } => completed(instructions::mov_imm(regs, k, rd, imm)),
-        Instruction::CmpImm { rd, imm } => completed(instructions::cmp_imm(regs, k, rd, imm)),
-        Instruction::And { rs, rd } => completed(instructions::and(regs, k, rs, rd)),
-        Instruction::Eor { rs, rd } => completed(instructions::eor(regs, k, rs, rd)),
-        Instruction::Asr { rs, rd } => completed(instructions::asr(regs, k, rs, rd)),
-        Instruction::Tst { rs, rd } => completed(instructions::tst(regs, k, rs, rd)),
-        Instruction::Neg { rs, rd } => completed(instructions::neg(regs, k, rs, rd)),
-        Instruction::Cmp { rs, rd } => completed(instructions::cmp(regs, k, rs, rd)),
-        Instruction::AddHigh { rs, rd } => completed(instructions::add_high(regs, k, rs, rd)),
-        Instruction::CmpHigh { rs, rd } => completed(instructions::cmp_high(regs, k, rs, rd)),
-        Instruction::MovHigh { rs, rd } => completed(instructions::mov_high(regs, k, rs, rd)),
-        Instruction::Str { offset, rb, rd } => instructions::str(regs, k, memory, offset, rb, rd),
-        Instruction::Ldr { offset, rb, rd } => instructions::ldr(regs, k, memory, offset, rb, rd),
-        Instruction::Strb { offset, rb, rd } => instructions::strb(regs, k, memory, offset, rb, rd),
-        Instruction::Ldrb { offset, rb, rd } => {
-            completed(instructions::ldrb(regs, k, memory, offset, rb, rd))
-        }
-        Instruction::AddPc { rd, imm } => completed(instructions::add_pc(regs, k, rd, imm)),
-        Instruction::Branch { cond, offset } => {
-            completed(instructions::branch(regs, k, cond, offset))
-        }
-        Instruction::Halt => Executed {
+    if h == 0 {
+        Executed {
             control: k,
             outcome: Outcome::Halted,
-        },
+        }
+    } else {
+        stopped(k, 19)
     }
+}
+
+// The operations on two of R0 to R7.
+fn execute_alu(regs: &mut [u16; 16], k: Control, h: u16) -> Executed
+    requires { ⌜ Whole (now regs) ⌝ }
+    ensures { λ r. ⌜ Above (now (regs .exit)) r (aluOf h) (held (now (regs .entry)) k) ⌝ }
+{
+    match bits(h, 6, 4) {
+        0 => completed(instructions::and(regs, k, bits(h, 3, 3), bits(h, 0, 3))),
+        1 => completed(instructions::eor(regs, k, bits(h, 3, 3), bits(h, 0, 3))),
+        2 => completed(instructions::asr(regs, k, bits(h, 3, 3), bits(h, 0, 3))),
+        3 => completed(instructions::tst(regs, k, bits(h, 3, 3), bits(h, 0, 3))),
+        4 => completed(instructions::neg(regs, k, bits(h, 3, 3), bits(h, 0, 3))),
+        5 => completed(instructions::cmp(regs, k, bits(h, 3, 3), bits(h, 0, 3))),
+        _ => stopped(k, 19),
+    }
+}
+
+// The operations on any two registers. A comparison of two low ones is none.
+fn execute_high(regs: &mut [u16; 16], k: Control, h: u16) -> Executed
+    requires { ⌜ Whole (now regs) ⌝ }
+    ensures { λ r. ⌜ Above (now (regs .exit)) r (highOf h) (held (now (regs .entry)) k) ⌝ }
+{
+    match bits(h, 8, 2) {
+        0 => completed(instructions::add_high(regs, k, high_rs(h), high_rd(h))),
+        1 => {
+            if bits(h, 6, 2) == 0 {
+                stopped(k, 19)
+            } else {
+                completed(instructions::cmp_high(regs, k, high_rs(h), high_rd(h)))
+            }
+        }
+        2 => completed(instructions::mov_high(regs, k, high_rs(h), high_rd(h))),
+        _ => stopped(k, 19),
+    }
+}
+
+// The two formats above, by the bit in which they differ.
+fn execute_registers(regs: &mut [u16; 16], k: Control, h: u16) -> Executed
+    requires { ⌜ Whole (now regs) × (field h 11 2 ≡ 0) ⌝ }
+    ensures { λ r. ⌜ Above (now (regs .exit)) r (registersOf h) (held (now (regs .entry)) k) ⌝ }
+{
+    if bits(h, 10, 1) == 0 {
+        execute_alu(regs, k, h)
+    } else {
+        execute_high(regs, k, h)
+    }
+}
+
+// A branch by one of the upper conditions, or a halfword with the number of
+// none.
+fn execute_branch(k: Control, h: u16) -> Executed
+    requires { ⌜ field h 12 1 ≡ 1 ⌝ }
+    ensures { λ r. ⌜ Beside r k (branchOf h) ⌝ }
+{
+    let cond = bits(h, 8, 4);
+    if cond < 14 {
+        completed(instructions::branch(k, cond, bits(h, 0, 8)))
+    } else {
+        stopped(k, 19)
+    }
+}
+
+// Does what a halfword says on a machine that is held and its memory. Its top
+// five bits tell its format; of a branch they tell the half of the conditions.
+fn execute(regs: &mut [u16; 16], k: Control, memory: &mut [u8], h: u16) -> Executed
+    requires { ⌜ Whole (now regs) × (length (now memory) ≡ memorySize) ⌝ }
+    ensures { λ r. ⌜ Leads (now (regs .exit)) r (now (memory .exit)) (executeDecoded (decodeOf h) (held (now (regs .entry)) k) (now (memory .entry))) ⌝ }
+{
+    match bits(h, 11, 5) {
+        0 => execute_halt(k, h),
+        4 => completed(instructions::mov_imm(regs, k, bits(h, 8, 3), bits(h, 0, 8))),
+        5 => completed(instructions::cmp_imm(regs, k, bits(h, 8, 3), bits(h, 0, 8))),
+        8 => execute_registers(regs, k, h),
+        12 => instructions::str(regs, k, memory, bits(h, 6, 5), bits(h, 3, 3), bits(h, 0, 3)),
+        13 => instructions::ldr(regs, k, memory, bits(h, 6, 5), bits(h, 3, 3), bits(h, 0, 3)),
+        14 => instructions::strb(regs, k, memory, bits(h, 6, 5), bits(h, 3, 3), bits(h, 0, 3)),
+        15 => {
+            completed(instructions::ldrb(
+                regs,
+                k,
+                memory,
+                bits(h, 6, 5),
+                bits(h, 3, 3),
+                bits(h, 0, 3),
+            ))
+        }
+        20 => completed(instructions::add_pc(regs, k, bits(h, 8, 3), bits(h, 0, 8))),
+        26 => completed(instructions::branch(k, bits(h, 8, 3), bits(h, 0, 8))),
+        27 => execute_branch(k, h),
+        _ => stopped(k, 19),
+    }
+}
+
+// One step, with a memory of the right size.
+pub(crate) fn fetch_and_execute(regs: &mut [u16; 16], k: Control, memory: &mut [u8]) -> Executed
+    requires { ⌜ Whole (now regs) × (length (now memory) ≡ memorySize) ⌝ }
+    ensures { λ r. ⌜ Leads (now (regs .exit)) r (now (memory .exit)) (fetchAndExecute (held (now (regs .entry)) k) (now (memory .entry))) ⌝ }
+{
+    if k.pc % 2 != 0 {
+        return stopped(k, 18);
+    }
+    let h = load_halfword(memory, k.pc as usize);
+    execute(regs, k, memory, h)
 }

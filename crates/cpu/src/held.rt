@@ -1,20 +1,25 @@
 // How a machine is held while instructions run: the registers in an array, the
-// flags and a copy of the PC by value beside it. The copy spares each step a
-// read of R15 just after R15 was written.
-use super::machine::Flags;
+// flags and the PC by value beside it. What the array has at 15 doesn't count;
+// an instruction that may name R15 first puts the PC there.
 use super::machine::Machine;
+use super::status::Status;
+use super::status::is_negative;
+use super::status::is_zero;
+use super::status::result_of;
 use super::stepper::Outcome;
 ghost use mathlib.Core.Path.{_≡_};
-ghost use Prim.Native.Nat.{_<_};
-ghost use lib.ListN.{getD, set};
-ghost use Rattle.cpu.specs.Machine.{machine, advanced, written};
-ghost use Rattle.cpu.specs.Held.{flagsIn, held, Holds};
+ghost use Prim.Native.Nat.{_+_, _<_};
+ghost use lib.ListN.{set};
+ghost use Rattle.isa.specs.Address.{wrap};
+ghost use Rattle.cpu.specs.Machine.{machine, written};
+ghost use Rattle.cpu.specs.Held.{flagsIn, statusIn, held, control, Whole, Holds};
 
-// The PC and the flags.
+// The PC and the flags. The fields of `Status` stand here one by one: a struct of
+// eight bytes inside another is moved as one word, and packed and unpacked at
+// every step.
 pub struct Control {
     pub pc: u16,
-    pub n: bool,
-    pub z: bool,
+    pub result: u32,
     pub c: bool,
     pub v: bool,
 }
@@ -25,14 +30,35 @@ pub struct Executed {
     pub outcome: Outcome,
 }
 
-// What stands beside the registers of a machine.
-pub(crate) fn control_of(m: Machine) -> Control
-    ensures { λ k. ⌜ Holds (m .regs) k m ⌝ }
+pub(crate) fn status_in(k: Control) -> Status
+    ensures { λ s. ⌜ s ≡ statusIn k ⌝ }
+{
+    Status {
+        result: k.result,
+        c: k.c,
+        v: k.v,
+    }
+}
+
+pub(crate) fn control_at(pc: u16, status: Status) -> Control
+    ensures { λ k. ⌜ k ≡ control pc status ⌝ }
 {
     Control {
+        pc,
+        result: status.result,
+        c: status.c,
+        v: status.v,
+    }
+}
+
+// What stands beside the registers of a machine.
+pub(crate) fn control_of(m: Machine) -> Control
+    ensures { λ k. ⌜ held (m .regs) k ≡ m ⌝ }
+{
+    let result = result_of(m.n, m.z);
+    Control {
         pc: m.regs[15],
-        n: m.n,
-        z: m.z,
+        result,
         c: m.c,
         v: m.v,
     }
@@ -42,35 +68,17 @@ pub(crate) fn control_of(m: Machine) -> Control
 pub(crate) fn assemble(regs: [u16; 16], k: Control) -> Machine
     ensures { λ m. ⌜ m ≡ held regs k ⌝ }
 {
+    let mut regs = regs;
+    regs[15] = k.pc;
+    let status = status_in(k);
+    let n = is_negative(status);
+    let z = is_zero(status);
     Machine {
         regs,
-        n: k.n,
-        z: k.z,
-        c: k.c,
-        v: k.v,
-    }
-}
-
-pub(crate) fn flags_in(k: Control) -> Flags
-    ensures { λ f. ⌜ f ≡ flagsIn k ⌝ }
-{
-    Flags {
-        n: k.n,
-        z: k.z,
-        c: k.c,
-        v: k.v,
-    }
-}
-
-fn control_at(pc: u16, f: Flags) -> Control
-    ensures { λ k. ⌜ (k .pc ≡ pc) × (flagsIn k ≡ f) ⌝ }
-{
-    Control {
-        pc,
-        n: f.n,
-        z: f.z,
-        c: f.c,
-        v: f.v,
+        n,
+        z,
+        c: status.c,
+        v: status.v,
     }
 }
 
@@ -94,46 +102,31 @@ pub(crate) fn stopped(k: Control, number: u8) -> Executed
 }
 
 // Ends an instruction that writes no register.
-pub(crate) fn advance(regs: &mut [u16; 16], pc: u16, f: Flags) -> Control
-    requires { ⌜ pc ≡ getD (now regs) 15 0 ⌝ }
-    ensures { λ k. ⌜ Holds (now (regs .exit)) k (machine (advanced (now (regs .entry))) f) ⌝ }
+pub(crate) fn advance(pc: u16, status: Status) -> Control
+    ensures { λ k. ⌜ k ≡ control (wrap (pc + 2)) status ⌝ }
 {
-    regs[15] = std::num::wrapping_add_u16(pc, 2);
-    control_at(regs[15], f)
+    control_at(std::num::wrapping_add_u16(pc, 2), status)
 }
 
-// Ends an instruction that has a result for one of R0 to R7, which leaves R15
-// as it is read back.
-pub(crate) fn write_low(regs: &mut [u16; 16], pc: u16, rd: u8, x: u16, f: Flags) -> Control
-    requires { ⌜ (pc ≡ getD (now regs) 15 0) × (rd < 8) ⌝ }
-    ensures { λ k. ⌜ Holds (now (regs .exit)) k (machine (written (now (regs .entry)) rd x) f) ⌝ }
+// Ends an instruction that has a result for one of R0 to R7.
+pub(crate) fn write_low(regs: &mut [u16; 16], pc: u16, rd: u8, x: u16, status: Status) -> Control
+    requires { ⌜ Whole (now regs) × (rd < 8) ⌝ }
+    ensures { λ k. ⌜ Holds (now (regs .exit)) k (machine (written (set (now (regs .entry)) 15 pc) rd x) (flagsIn status)) ⌝ }
 {
-    regs[15] = std::num::wrapping_add_u16(pc, 2);
-    let next = regs[15];
     regs[rd as usize] = x;
-    control_at(next, f)
+    advance(pc, status)
 }
 
-// Ends an instruction that has a result for any register. R15 is moved on
-// first, so that a result for it stands.
-pub(crate) fn write(regs: &mut [u16; 16], pc: u16, rd: u8, x: u16, f: Flags) -> Control
-    requires { ⌜ (pc ≡ getD (now regs) 15 0) × (rd < 16) ⌝ }
-    ensures { λ k. ⌜ Holds (now (regs .exit)) k (machine (written (now (regs .entry)) rd x) f) ⌝ }
+// Ends an instruction that has a result for any register; one for R15 is the
+// next PC.
+pub(crate) fn write(regs: &mut [u16; 16], pc: u16, rd: u8, x: u16, status: Status) -> Control
+    requires { ⌜ Whole (now regs) × (rd < 16) ⌝ }
+    ensures { λ k. ⌜ Holds (now (regs .exit)) k (machine (written (set (now (regs .entry)) 15 pc) rd x) (flagsIn status)) ⌝ }
 {
-    regs[15] = std::num::wrapping_add_u16(pc, 2);
-    let next = regs[15];
     regs[rd as usize] = x;
     if rd == 15 {
-        control_at(regs[15], f)
+        control_at(x, status)
     } else {
-        control_at(next, f)
+        advance(pc, status)
     }
-}
-
-// Ends a branch that is taken.
-pub(crate) fn jump(regs: &mut [u16; 16], target: u16, f: Flags) -> Control
-    ensures { λ k. ⌜ Holds (now (regs .exit)) k (machine (set (now (regs .entry)) 15 target) f) ⌝ }
-{
-    regs[15] = target;
-    control_at(regs[15], f)
 }

@@ -1,19 +1,18 @@
 // One function an instruction, in the manual's order and named after its page.
 use super::alu::compare;
-use super::alu::condition;
 use super::alu::difference;
-use super::alu::difference_flags;
-use super::alu::result_flags;
+use super::alu::difference_status;
+use super::alu::result_status;
 use super::alu::shift;
-use super::alu::shift_flags;
+use super::alu::shift_status;
 use super::alu::sum;
-use super::alu::sum_flags;
+use super::alu::sum_status;
 use super::held::Control;
 use super::held::Executed;
 use super::held::advance;
 use super::held::completed;
-use super::held::flags_in;
-use super::held::jump;
+use super::held::control_at;
+use super::held::status_in;
 use super::held::stopped;
 use super::held::write;
 use super::held::write_low;
@@ -21,24 +20,26 @@ use super::memory::load_byte;
 use super::memory::load_halfword;
 use super::memory::store_byte;
 use super::memory::store_halfword;
+use super::status::condition;
 use isa::ByteAddress;
 ghost use mathlib.Core.Path.{_≡_};
 ghost use Prim.Native.Nat.{_+_, _*_, _/_, _<_};
 ghost use lib.ListN.{length};
 ghost use Rattle.isa.specs.Address.{wrap};
 ghost use Rattle.cpu.specs.Memory.{memorySize};
-ghost use Rattle.cpu.specs.Step.{addHighOf, addPcOf, andOf, asrOf, branchOf, cmpImmOf, cmpOf, cmpHighOf, eorOf, ldrOf, ldrbOf, movImmOf, movHighOf, negOf, strOf, strbOf, tstOf};
-ghost use Rattle.cpu.specs.Held.{held, Current, Holds, Leads};
+ghost use Rattle.cpu.specs.Step.{addHighOf, addPcOf, andOf, asrOf, cmpImmOf, cmpOf, cmpHighOf, eorOf, ldrOf, ldrbOf, movImmOf, movHighOf, negOf, strOf, strbOf, tstOf};
+ghost use Rattle.cpu.specs.Held.{held, branched, Whole, Holds, Leads};
 
 // ADD(1).
 pub(crate) fn add_high(regs: &mut [u16; 16], k: Control, rs: u8, rd: u8) -> Control
-    requires { ⌜ Current (now regs) k × (rs < 16) × (rd < 16) ⌝ }
+    requires { ⌜ Whole (now regs) × (rs < 16) × (rd < 16) ⌝ }
     ensures { λ r. ⌜ Holds (now (regs .exit)) r (addHighOf rs rd (held (now (regs .entry)) k)) ⌝ }
 {
+    regs[15] = k.pc;
     let a = regs[rd as usize];
     let b = regs[rs as usize];
     let r = sum(a, b);
-    write(regs, k.pc, rd, r, sum_flags(a, b, r))
+    write(regs, k.pc, rd, r, sum_status(a, b, r))
 }
 
 // The PC with its two low bits cleared, plus 4 times an immediate.
@@ -50,82 +51,83 @@ fn pc_relative(pc: u16, imm: u8) -> u16
 
 // ADD(2).
 pub(crate) fn add_pc(regs: &mut [u16; 16], k: Control, rd: u8, imm: u8) -> Control
-    requires { ⌜ Current (now regs) k × (rd < 8) ⌝ }
+    requires { ⌜ Whole (now regs) × (rd < 8) ⌝ }
     ensures { λ r. ⌜ Holds (now (regs .exit)) r (addPcOf rd imm (held (now (regs .entry)) k)) ⌝ }
 {
     let r = pc_relative(k.pc, imm);
-    write_low(regs, k.pc, rd, r, flags_in(k))
+    write_low(regs, k.pc, rd, r, status_in(k))
 }
 
 // AND.
 pub(crate) fn and(regs: &mut [u16; 16], k: Control, rs: u8, rd: u8) -> Control
-    requires { ⌜ Current (now regs) k × (rs < 8) × (rd < 8) ⌝ }
+    requires { ⌜ Whole (now regs) × (rs < 8) × (rd < 8) ⌝ }
     ensures { λ r. ⌜ Holds (now (regs .exit)) r (andOf rs rd (held (now (regs .entry)) k)) ⌝ }
 {
     let r = regs[rd as usize] & regs[rs as usize];
-    write_low(regs, k.pc, rd, r, result_flags(r, flags_in(k)))
+    write_low(regs, k.pc, rd, r, result_status(r, status_in(k)))
 }
 
 // ASR: both operands are read before Rd is written.
 pub(crate) fn asr(regs: &mut [u16; 16], k: Control, rs: u8, rd: u8) -> Control
-    requires { ⌜ Current (now regs) k × (rs < 8) × (rd < 8) ⌝ }
+    requires { ⌜ Whole (now regs) × (rs < 8) × (rd < 8) ⌝ }
     ensures { λ r. ⌜ Holds (now (regs .exit)) r (asrOf rs rd (held (now (regs .entry)) k)) ⌝ }
 {
     let a = regs[rd as usize];
     let n = regs[rs as usize] % 256;
     let r = shift(a, n);
-    write_low(regs, k.pc, rd, r, shift_flags(a, n, r, flags_in(k)))
+    write_low(regs, k.pc, rd, r, shift_status(a, n, r, status_in(k)))
 }
 
-// B.
-pub(crate) fn branch(regs: &mut [u16; 16], k: Control, cond: u8, offset: u8) -> Control
-    requires { ⌜ Current (now regs) k ⌝ }
-    ensures { λ r. ⌜ Holds (now (regs .exit)) r (branchOf cond offset (held (now (regs .entry)) k)) ⌝ }
+// B: what it leaves beside the registers.
+pub(crate) fn branch(k: Control, cond: u8, offset: u8) -> Control
+    ensures { λ r. ⌜ r ≡ branched cond offset k ⌝ }
 {
-    if condition(cond, flags_in(k)) {
+    let status = status_in(k);
+    if condition(cond, status) {
         let target = isa::branch_target(ByteAddress(k.pc), offset);
-        jump(regs, target.0, flags_in(k))
+        control_at(target.0, status)
     } else {
-        advance(regs, k.pc, flags_in(k))
+        advance(k.pc, status)
     }
 }
 
 // CMP(1).
-pub(crate) fn cmp_imm(regs: &mut [u16; 16], k: Control, rd: u8, imm: u8) -> Control
-    requires { ⌜ Current (now regs) k × (rd < 8) ⌝ }
-    ensures { λ r. ⌜ Holds (now (regs .exit)) r (cmpImmOf rd imm (held (now (regs .entry)) k)) ⌝ }
+pub(crate) fn cmp_imm(regs: &[u16; 16], k: Control, rd: u8, imm: u8) -> Control
+    requires { ⌜ Whole (now regs) × (rd < 8) ⌝ }
+    ensures { λ r. ⌜ Holds (now (regs .entry)) r (cmpImmOf rd imm (held (now (regs .entry)) k)) ⌝ }
 {
     let a = regs[rd as usize];
-    advance(regs, k.pc, compare(a, imm as u16))
+    advance(k.pc, compare(a, imm as u16))
 }
 
 // CMP(2).
-pub(crate) fn cmp(regs: &mut [u16; 16], k: Control, rs: u8, rd: u8) -> Control
-    requires { ⌜ Current (now regs) k × (rs < 8) × (rd < 8) ⌝ }
-    ensures { λ r. ⌜ Holds (now (regs .exit)) r (cmpOf rs rd (held (now (regs .entry)) k)) ⌝ }
+pub(crate) fn cmp(regs: &[u16; 16], k: Control, rs: u8, rd: u8) -> Control
+    requires { ⌜ Whole (now regs) × (rs < 8) × (rd < 8) ⌝ }
+    ensures { λ r. ⌜ Holds (now (regs .entry)) r (cmpOf rs rd (held (now (regs .entry)) k)) ⌝ }
 {
     let a = regs[rd as usize];
     let b = regs[rs as usize];
-    advance(regs, k.pc, compare(a, b))
+    advance(k.pc, compare(a, b))
 }
 
 // CMP(3).
 pub(crate) fn cmp_high(regs: &mut [u16; 16], k: Control, rs: u8, rd: u8) -> Control
-    requires { ⌜ Current (now regs) k × (rs < 16) × (rd < 16) ⌝ }
+    requires { ⌜ Whole (now regs) × (rs < 16) × (rd < 16) ⌝ }
     ensures { λ r. ⌜ Holds (now (regs .exit)) r (cmpHighOf rs rd (held (now (regs .entry)) k)) ⌝ }
 {
+    regs[15] = k.pc;
     let a = regs[rd as usize];
     let b = regs[rs as usize];
-    advance(regs, k.pc, compare(a, b))
+    advance(k.pc, compare(a, b))
 }
 
 // EOR.
 pub(crate) fn eor(regs: &mut [u16; 16], k: Control, rs: u8, rd: u8) -> Control
-    requires { ⌜ Current (now regs) k × (rs < 8) × (rd < 8) ⌝ }
+    requires { ⌜ Whole (now regs) × (rs < 8) × (rd < 8) ⌝ }
     ensures { λ r. ⌜ Holds (now (regs .exit)) r (eorOf rs rd (held (now (regs .entry)) k)) ⌝ }
 {
     let r = regs[rd as usize] ^ regs[rs as usize];
-    write_low(regs, k.pc, rd, r, result_flags(r, flags_in(k)))
+    write_low(regs, k.pc, rd, r, result_status(r, status_in(k)))
 }
 
 // Where a load or a store goes: a distance past its base register.
@@ -144,7 +146,7 @@ pub(crate) fn ldr(
     rb: u8,
     rd: u8,
 ) -> Executed
-    requires { ⌜ Current (now regs) k × (length (now memory) ≡ memorySize) × (rb < 8) × (rd < 8) ⌝ }
+    requires { ⌜ Whole (now regs) × (length (now memory) ≡ memorySize) × (rb < 8) × (rd < 8) ⌝ }
     ensures { λ r. ⌜ Leads (now (regs .exit)) r (now (memory .entry)) (ldrOf offset rb rd (held (now (regs .entry)) k) (now (memory .entry))) ⌝ }
 {
     let a = effective_address(regs[rb as usize], 4 * (offset as u16));
@@ -152,7 +154,7 @@ pub(crate) fn ldr(
         return stopped(k, 20);
     }
     let x = load_halfword(memory, a as usize);
-    completed(write_low(regs, k.pc, rd, x, flags_in(k)))
+    completed(write_low(regs, k.pc, rd, x, status_in(k)))
 }
 
 // LDRB.
@@ -164,53 +166,54 @@ pub(crate) fn ldrb(
     rb: u8,
     rd: u8,
 ) -> Control
-    requires { ⌜ Current (now regs) k × (length (now memory) ≡ memorySize) × (rb < 8) × (rd < 8) ⌝ }
+    requires { ⌜ Whole (now regs) × (length (now memory) ≡ memorySize) × (rb < 8) × (rd < 8) ⌝ }
     ensures { λ r. ⌜ Holds (now (regs .exit)) r (ldrbOf offset rb rd (held (now (regs .entry)) k) (now (memory .entry))) ⌝ }
 {
     let a = effective_address(regs[rb as usize], offset as u16);
     let x = load_byte(memory, a as usize);
-    write_low(regs, k.pc, rd, x, flags_in(k))
+    write_low(regs, k.pc, rd, x, status_in(k))
 }
 
 // MOV(1).
 pub(crate) fn mov_imm(regs: &mut [u16; 16], k: Control, rd: u8, imm: u8) -> Control
-    requires { ⌜ Current (now regs) k × (rd < 8) ⌝ }
+    requires { ⌜ Whole (now regs) × (rd < 8) ⌝ }
     ensures { λ r. ⌜ Holds (now (regs .exit)) r (movImmOf rd imm (held (now (regs .entry)) k)) ⌝ }
 {
     let r = imm as u16;
-    write_low(regs, k.pc, rd, r, result_flags(r, flags_in(k)))
+    write_low(regs, k.pc, rd, r, result_status(r, status_in(k)))
 }
 
 // MOV(2).
 pub(crate) fn mov_high(regs: &mut [u16; 16], k: Control, rs: u8, rd: u8) -> Control
-    requires { ⌜ Current (now regs) k × (rs < 16) × (rd < 16) ⌝ }
+    requires { ⌜ Whole (now regs) × (rs < 16) × (rd < 16) ⌝ }
     ensures { λ r. ⌜ Holds (now (regs .exit)) r (movHighOf rs rd (held (now (regs .entry)) k)) ⌝ }
 {
+    regs[15] = k.pc;
     let r = regs[rs as usize];
-    write(regs, k.pc, rd, r, result_flags(r, flags_in(k)))
+    write(regs, k.pc, rd, r, result_status(r, status_in(k)))
 }
 
 // NEG.
 pub(crate) fn neg(regs: &mut [u16; 16], k: Control, rs: u8, rd: u8) -> Control
-    requires { ⌜ Current (now regs) k × (rs < 8) × (rd < 8) ⌝ }
+    requires { ⌜ Whole (now regs) × (rs < 8) × (rd < 8) ⌝ }
     ensures { λ r. ⌜ Holds (now (regs .exit)) r (negOf rs rd (held (now (regs .entry)) k)) ⌝ }
 {
     let b = regs[rs as usize];
     let r = difference(0, b);
-    write_low(regs, k.pc, rd, r, difference_flags(0, b, r))
+    write_low(regs, k.pc, rd, r, difference_status(0, b, r))
 }
 
 // STR, or stop 20.
 pub(crate) fn str(
-    regs: &mut [u16; 16],
+    regs: &[u16; 16],
     k: Control,
     memory: &mut [u8],
     offset: u8,
     rb: u8,
     rd: u8,
 ) -> Executed
-    requires { ⌜ Current (now regs) k × (length (now memory) ≡ memorySize) × (rb < 8) × (rd < 8) ⌝ }
-    ensures { λ r. ⌜ Leads (now (regs .exit)) r (now (memory .exit)) (strOf offset rb rd (held (now (regs .entry)) k) (now (memory .entry))) ⌝ }
+    requires { ⌜ Whole (now regs) × (length (now memory) ≡ memorySize) × (rb < 8) × (rd < 8) ⌝ }
+    ensures { λ r. ⌜ Leads (now (regs .entry)) r (now (memory .exit)) (strOf offset rb rd (held (now (regs .entry)) k) (now (memory .entry))) ⌝ }
 {
     let a = effective_address(regs[rb as usize], 4 * (offset as u16));
     if a % 4 != 0 {
@@ -218,32 +221,32 @@ pub(crate) fn str(
     }
     let x = regs[rd as usize];
     store_halfword(memory, a as usize, x);
-    completed(advance(regs, k.pc, flags_in(k)))
+    completed(advance(k.pc, status_in(k)))
 }
 
 // STRB.
 pub(crate) fn strb(
-    regs: &mut [u16; 16],
+    regs: &[u16; 16],
     k: Control,
     memory: &mut [u8],
     offset: u8,
     rb: u8,
     rd: u8,
 ) -> Executed
-    requires { ⌜ Current (now regs) k × (length (now memory) ≡ memorySize) × (rb < 8) × (rd < 8) ⌝ }
-    ensures { λ r. ⌜ Leads (now (regs .exit)) r (now (memory .exit)) (strbOf offset rb rd (held (now (regs .entry)) k) (now (memory .entry))) ⌝ }
+    requires { ⌜ Whole (now regs) × (length (now memory) ≡ memorySize) × (rb < 8) × (rd < 8) ⌝ }
+    ensures { λ r. ⌜ Leads (now (regs .entry)) r (now (memory .exit)) (strbOf offset rb rd (held (now (regs .entry)) k) (now (memory .entry))) ⌝ }
 {
     let a = effective_address(regs[rb as usize], offset as u16);
     let x = regs[rd as usize];
     store_byte(memory, a as usize, x);
-    completed(advance(regs, k.pc, flags_in(k)))
+    completed(advance(k.pc, status_in(k)))
 }
 
 // TST.
-pub(crate) fn tst(regs: &mut [u16; 16], k: Control, rs: u8, rd: u8) -> Control
-    requires { ⌜ Current (now regs) k × (rs < 8) × (rd < 8) ⌝ }
-    ensures { λ r. ⌜ Holds (now (regs .exit)) r (tstOf rs rd (held (now (regs .entry)) k)) ⌝ }
+pub(crate) fn tst(regs: &[u16; 16], k: Control, rs: u8, rd: u8) -> Control
+    requires { ⌜ Whole (now regs) × (rs < 8) × (rd < 8) ⌝ }
+    ensures { λ r. ⌜ Holds (now (regs .entry)) r (tstOf rs rd (held (now (regs .entry)) k)) ⌝ }
 {
     let r = regs[rd as usize] & regs[rs as usize];
-    advance(regs, k.pc, result_flags(r, flags_in(k)))
+    advance(k.pc, result_status(r, status_in(k)))
 }

@@ -8,6 +8,7 @@ mod instructions;
 mod machine;
 mod memory;
 mod runner;
+mod status;
 mod stepper;
 
 pub use machine::Machine;

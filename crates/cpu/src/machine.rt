@@ -7,11 +7,3 @@ pub struct Machine {
     pub c: bool,
     pub v: bool,
 }
-
-// The flags by themselves.
-pub struct Flags {
-    pub n: bool,
-    pub z: bool,
-    pub c: bool,
-    pub v: bool,
-}

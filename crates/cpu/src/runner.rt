@@ -1,11 +1,11 @@
 // A run: steps until a budget is spent.
+use super::executor::fetch_and_execute;
 use super::held::Control;
 use super::held::assemble;
 use super::held::control_of;
 use super::machine::Machine;
 use super::memory::MEMORY_SIZE;
 use super::stepper::Outcome;
-use super::stepper::fetch_and_execute;
 use super::stepper::wrong_size;
 use isa::Refusal;
 ghost use mathlib.Core.Path.{_≡_};

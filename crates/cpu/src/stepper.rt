@@ -1,22 +1,13 @@
 // One step: by value, and on a borrowed machine.
-use super::executor::execute;
-use super::held::Control;
-use super::held::Executed;
-use super::held::assemble;
-use super::held::control_of;
-use super::held::stopped;
 use super::machine::Machine;
-use super::memory::MEMORY_SIZE;
-use super::memory::load_halfword;
-use isa::Decoded;
+use super::runner::RunOutcome;
+use super::runner::run;
 use isa::Place;
 use isa::Refusal;
 ghost use mathlib.Core.Path.{_≡_};
-ghost use lib.ListN.{length};
 ghost use Rattle.isa.specs.Refusal.{refusal};
-ghost use Rattle.cpu.specs.Memory.{memorySize};
-ghost use Rattle.cpu.specs.Step.{stepResult, fetchAndExecute, stepOf};
-ghost use Rattle.cpu.specs.Held.{held, Current, Leads};
+ghost use Rattle.cpu.specs.Step.{stepResult, stepOf};
+ghost use Rattle.cpu.specs.Held.{asStep};
 
 // How a step ended: it completed, it met HALT, it stopped (18 odd PC, 19
 // undefined halfword, 20 misaligned address), or check 1 refused the memory.
@@ -43,39 +34,28 @@ pub(crate) fn wrong_size() -> Refusal
     }
 }
 
-// A step on a machine that is held, with a memory of the right size.
-pub(crate) fn fetch_and_execute(regs: &mut [u16; 16], k: Control, memory: &mut [u8]) -> Executed
-    requires { ⌜ Current (now regs) k × (length (now memory) ≡ memorySize) ⌝ }
-    ensures { λ r. ⌜ Leads (now (regs .exit)) r (now (memory .exit)) (fetchAndExecute (held (now (regs .entry)) k) (now (memory .entry))) ⌝ }
+// How a run of one step ended, as a step's end.
+fn step_outcome(outcome: RunOutcome) -> Outcome
+    ensures { λ r. ⌜ r ≡ asStep outcome ⌝ }
 {
-    let pc = k.pc;
-    if pc % 2 != 0 {
-        return stopped(k, 18);
-    }
-    let h = load_halfword(memory, pc as usize);
-    match isa::decode(h) {
-        Decoded::Defined(i) => execute(regs, k, memory, i),
-        Decoded::Undefined => stopped(k, 19),
+    match outcome {
+        RunOutcome::Spent => Outcome::Completed,
+        RunOutcome::Halted => Outcome::Halted,
+        RunOutcome::Stopped(number) => Outcome::Stopped(number),
+        RunOutcome::Refused(refusal) => Outcome::Refused(refusal),
     }
 }
 
-// One step of a machine by value.
+// One step of a machine by value: a run with a budget of 1.
 pub fn step_value(m: Machine, memory: &mut [u8]) -> Stepped
     ensures { λ r. ⌜ stepResult (r .machine) (now (memory .exit)) (r .outcome) ≡ stepOf m (now (memory .entry)) ⌝ }
 {
-    if memory.len() != MEMORY_SIZE {
-        return Stepped {
-            machine: m,
-            outcome: Outcome::Refused(wrong_size()),
-        };
-    }
-    let mut regs = m.regs;
-    let e = fetch_and_execute(&mut regs, control_of(m), memory);
-    let k = e.control;
-    let outcome = e.outcome;
+    let r = run(m, memory, 1);
+    let machine = r.machine;
+    let outcome = r.outcome;
     Stepped {
-        machine: assemble(regs, k),
-        outcome,
+        machine,
+        outcome: step_outcome(outcome),
     }
 }
 

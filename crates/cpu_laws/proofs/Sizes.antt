@@ -21,8 +21,7 @@ use Rattle.cpu.specs.Memory.{memorySize, byteAt, halfwordAt, withByte, withHalf
 use Rattle.cpu.specs.Alu.{negative, shiftedOf, shiftOf, conditionOf}
 use Rattle.cpu.specs.Step.{State, StepResult, stepResult, completed, stopped, effectiveAddress, aligned, addHighOf, addPcOf, andOf, asrOf, branchOf, cmpImmOf, cmpOf, cmpHighOf, eorOf, ldrOf, ldrbOf, movImmOf, movHighOf, negOf, strOf, strbOf, tstOf, executeOf, executeDecoded, fetched, fetchAndExecute, stepOf}
 use Rattle.cpu.specs.Run.{nextState, stateAfter}
-use Rattle.cpu.specs.Held.{Narrow}
-use Rattle.cpu.proofs.Narrow.{decoded-narrow}
+use Rattle.isa_laws.proofs.Narrow.{Narrow, decoded-narrow}
 use Rattle.cpu_laws.proofs.Steps.{cond-keeps, state}
 
 -- n numbers below a bound

@@ -1,9 +1,11 @@
 // From a halfword to its instruction: by its top three bits, then by the
 // operation of its format.
 use super::fields::bits;
+use super::fields::high_rd;
+use super::fields::high_rs;
 use super::instruction::Instruction;
 ghost use mathlib.Core.Path.{_≡_};
-ghost use Rattle.isa.specs.Decode.{decodeOf, haltOf, immOf, registersOf, aluOf, highOf, highRs, highRd, memoryOf, addPcOf, branchOf};
+ghost use Rattle.isa.specs.Decode.{decodeOf, haltOf, immOf, registersOf, aluOf, highOf, memoryOf, addPcOf, branchOf};
 
 // What a halfword is: an instruction, or nothing that the manual defines.
 pub enum Decoded {
@@ -47,20 +49,6 @@ fn decode_alu(h: u16) -> Decoded
         5 => Decoded::Defined(Instruction::Cmp { rs, rd }),
         _ => Decoded::Undefined,
     }
-}
-
-// Rs with H2 in front: the bits stand side by side.
-fn high_rs(h: u16) -> u8
-    ensures { λ r. ⌜ r ≡ highRs h ⌝ }
-{
-    bits(h, 3, 4)
-}
-
-// Rd with H1 in front.
-fn high_rd(h: u16) -> u8
-    ensures { λ r. ⌜ r ≡ highRd h ⌝ }
-{
-    (bits(h, 7, 1) << 3) | bits(h, 0, 3)
 }
 
 fn decode_high(h: u16) -> Decoded

@@ -21,7 +21,7 @@ use Rattle.cpu.specs.declared.machine.Machine.{Machine}
 use Rattle.cpu.specs.Machine.{reg}
 use Rattle.safety.specs.Safety.{InWindow, SafeAccess}
 use Rattle.safety.proofs.Registers.{HoldsBelow}
-use Rattle.safety.proofs.Fields.{Small}
+use Rattle.isa_laws.proofs.Narrow.{Narrow}
 
 -- a base register is one of the sixteen, and a halfword's offset counts in fours
 record Formed (access : Access) : Type 0 where
@@ -37,7 +37,7 @@ halfword offset rb rd h = record { base = omega arith; fours = λ t. omega arith
 byte : (offset rb rd : ℕ) → rb < 8 → Formed (accessOf (Ldrb offset rb rd))
 byte offset rb rd h = record { base = omega arith; fours = λ t. absurd (omega arith) }
 
-formed : (i : Instruction) → Small i → Formed (accessOf i)
+formed : (i : Instruction) → Narrow i → Formed (accessOf i)
 formed (MovImm rd imm) h = none refl refl
 formed (CmpImm rd imm) h = none refl refl
 formed (And rs rd) h = none refl refl
@@ -49,10 +49,10 @@ formed (Cmp rs rd) h = none refl refl
 formed (AddHigh rs rd) h = none refl refl
 formed (CmpHigh rs rd) h = none refl refl
 formed (MovHigh rs rd) h = none refl refl
-formed (Str offset rb rd) h = halfword offset rb rd (h .0)
-formed (Ldr offset rb rd) h = halfword offset rb rd (h .0)
-formed (Strb offset rb rd) h = byte offset rb rd (h .0)
-formed (Ldrb offset rb rd) h = byte offset rb rd (h .0)
+formed (Str offset rb rd) h = halfword offset rb rd (h .1)
+formed (Ldr offset rb rd) h = halfword offset rb rd (h .1)
+formed (Strb offset rb rd) h = byte offset rb rd (h .1)
+formed (Ldrb offset rb rd) h = byte offset rb rd (h .1)
 formed (AddPc rd imm) h = none refl refl
 formed (Branch condition offset) h = none refl refl
 formed Halt h = none refl refl
@@ -62,12 +62,12 @@ in-window : (x low high offset size w l : ℕ) → low ≤ x → x ≤ high → 
     → (w ≤ wrap (x + offset)) × (wrap (x + offset) + size ≤ w + l)
 in-window x low high offset size w l a b s p q m = (omega arith, omega arith)
 
-pub access-safe : (s : State) (m : Machine) (layout : Layout) (i : Instruction) → Small i → HoldsBelow 16 s (m .regs)
+pub access-safe : (s : State) (m : Machine) (layout : Layout) (i : Instruction) → Narrow i → HoldsBelow 16 s (m .regs)
     → layout .«window_start» + layout .«window_length» ≤ 65536
     → check10 (value s (accessOf i .base)) (layout .«window_start») (layout .«window_length») (accessOf i) ≡ true
     → check11 (value s (accessOf i .base)) (accessOf i) ≡ true
     → SafeAccess layout m (accessOf i)
-access-safe s m layout i small holds fits c10 c11 = record { inside = inside; aligned = aligned }
+access-safe s m layout i narrow holds fits c10 c11 = record { inside = inside; aligned = aligned }
   where
     base : ℕ
     base = accessOf i .base
@@ -85,7 +85,7 @@ access-safe s m layout i small holds fits c10 c11 = record { inside = inside; al
     l = layout .«window_length»
 
     h : Holds (value s base) (reg m base)
-    h = holds base (formed i small .base)
+    h = holds base (formed i narrow .base)
 
     inside : 0 < size → InWindow layout (wrap (reg m base + offset)) size
     inside z =
@@ -98,5 +98,5 @@ access-safe s m layout i small holds fits c10 c11 = record { inside = inside; al
     aligned e =
         let z : 2 ≤ value s base .zeros = leb-true _ _ (simp (eq-eqb _ _ e) at c11) in
         let d : reg m base % 4 ≡ 0 = zeros-less (reg m base) 2 (value s base .zeros) z (h .zeros) in
-        let f : offset % 4 ≡ 0 = formed i small .fours e in
+        let f : offset % 4 ≡ 0 = formed i narrow .fours e in
         omega arith

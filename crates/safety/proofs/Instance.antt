@@ -12,7 +12,7 @@ use Rattle.image.specs.Block.{sumBelow}
 use Rattle.image.specs.Format.{tabulateFrom}
 use Rattle.image.specs.Pack.{bodyHalfword, balanceOf, imageHalfword, byteOf, imageOf}
 use Rattle.cpu.specs.Memory.{byteAt}
-use Rattle.cpu.specs.declared.machine.Flags.{Flags}
+use Rattle.cpu.specs.Machine.{Flags}
 use Rattle.table_laws.proofs.Table.{starred-rows}
 use Rattle.table_laws.specs.Table.{nzcv}
 use Rattle.safety.specs.Instance.{imageP, layoutP, memoryP, InstanceP}

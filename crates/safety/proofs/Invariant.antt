@@ -32,7 +32,7 @@ use Rattle.cpu.specs.Memory.{memorySize, byteAt, halfwordAt}
 use Rattle.cpu.specs.Step.{State, StepResult, executeOf, executeDecoded, fetched, fetchAndExecute, stepOf}
 use Rattle.safety.specs.Safety.{InWindow, SafeAccess}
 use Rattle.safety.proofs.Registers.{Sized, HoldsBelow, Moved, standing-holds}
-use Rattle.safety.proofs.Fields.{Small, fields-small}
+use Rattle.isa_laws.proofs.Narrow.{Narrow, decoded-narrow}
 use Rattle.safety.proofs.Steps.{Completes, step-case}
 use Rattle.safety.proofs.Accesses.{access-safe}
 use Rattle.safety.proofs.Memories.{Kept, step-kept}
@@ -136,16 +136,13 @@ module _ (code : List ℕ) (layout : Layout) (start : List ℕ) (fit : FitCode c
     unfolding stepOf fetchAndExecute
     step-is = simp (eq-eqb _ _ (inv .size), eq-eqb _ _ even, fetched-is)
 
-    fetch-fits : halfwordAt (s .memory) (pc m) < 65536
-    fetch-fits = omega (arith, inv .bytes (pc m), inv .bytes (pc m + 1))
-
-    small : Small ins
+    narrow : Narrow ins
     unfolding fetched
-    small = fields-small (halfwordAt (s .memory) (pc m)) fetch-fits ins fetched-is
+    narrow = decoded-narrow (halfwordAt (s .memory) (pc m)) ins (sym fetched-is)
 
     pub safe-access : SafeAccess layout m (accessOf ins)
     safe-access =
-        access-safe (valuesAt code i) m layout ins small (inv .holds) (fit .in-memory) (fit .passed (inv .index) (inv .inside) .passes10) (fit .passed (inv .index) (inv .inside) .passes11)
+        access-safe (valuesAt code i) m layout ins narrow (inv .holds) (fit .in-memory) (fit .passed (inv .index) (inv .inside) .passes10) (fit .passed (inv .index) (inv .inside) .passes11)
 
     here-is : addressOf i ≡ record { 0 = pc m }
     here-is = ap (λ (a : ℕ). record { 0 = a }) (address-is i (inv .inside) ∙ sym (inv .here))
@@ -208,7 +205,7 @@ module _ (code : List ℕ) (layout : Layout) (start : List ℕ) (fit : FitCode c
     next =
         rw step-is
         (⊎-elim (λ e. inl (rw e (refl, refl))) (λ c. inr (c .outcome, ⊎-elim (λ moved. fell (running c) moved) (λ j. branched (j .0) (j .1) (j .2 even) (j .3)) (c .moved)))
-        (step-case (valuesAt code i) m (s .memory) (arriving-long code i (entering code i) (entering-long code i)) (inv .sized) (inv .holds) (inv .bytes) ins small
+        (step-case (valuesAt code i) m (s .memory) (arriving-long code i (entering code i) (entering-long code i)) (inv .sized) (inv .holds) (inv .bytes) ins narrow
         (fit .passed (inv .index) (inv .inside) .passes12) (safe-access .aligned)))
       where
         running : Completes (valuesAt code (inv .index)) (fit .passed (inv .index) (inv .inside) .instruction) (s .machine) (executeOf (fit .passed (inv .index) (inv .inside) .instruction) (s .machine) (s .memory))

@@ -1,6 +1,5 @@
 pub mod Lists
 pub mod Registers
-pub mod Fields
 pub mod Steps
 pub mod Accesses
 pub mod Memories

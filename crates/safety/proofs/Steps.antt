@@ -23,14 +23,14 @@ use Rattle.verifier.specs.Questions.{check12}
 use Rattle.verifier.specs.State.{State, value, transferOf, pcSum}
 use Rattle.verifier.specs.declared.branch.Target.the-variants.{To}
 use Rattle.cpu.specs.declared.machine.Machine.{Machine}
-use Rattle.cpu.specs.declared.machine.Flags.{Flags}
+use Rattle.cpu.specs.Machine.{Flags}
 use Rattle.cpu.specs.declared.stepper.Outcome.the-variants.{Completed, Halted}
 use Rattle.cpu.specs.Machine.{reg, pc, flags, machine, advanced, written}
 use Rattle.cpu.specs.Memory.{byteAt, halfwordAt}
 use Rattle.cpu.specs.Alu.{negative, shiftOf, shiftedOf, conditionOf}
 use Rattle.cpu.specs.Step.{StepResult, stepResult, completed, effectiveAddress, executeOf, addHighOf, addPcOf, andOf, asrOf, branchOf, cmpImmOf, cmpOf, cmpHighOf, eorOf, ldrOf, ldrbOf, movImmOf, movHighOf, negOf, strOf, strbOf, tstOf}
 use Rattle.safety.proofs.Registers.{Sized, HoldsBelow, Moved, jumped, on, wrote}
-use Rattle.safety.proofs.Fields.{Small}
+use Rattle.isa_laws.proofs.Narrow.{Narrow}
 
 -- ---- an arithmetic shift gives 16 bits, and no more than what it shifts where that is not negative
 
@@ -97,7 +97,7 @@ module _ (s : State) (m : Machine) (memory : List ℕ) (long : length s ≡ 16) 
   branch-case condition offset false = passes (Branch condition offset) (flags m) memory refl
 
   -- every instruction but HALT, where check 12 has passed and its data are aligned
-  pub step-case : (i : Instruction) → Small i → check12 i ≡ true → (accessOf i .size ≡ 2 → effectiveAddress m (accessOf i .base) (accessOf i .offset) % 4 ≡ 0)
+  pub step-case : (i : Instruction) → Narrow i → check12 i ≡ true → (accessOf i .size ≡ 2 → effectiveAddress m (accessOf i .base) (accessOf i .offset) % 4 ≡ 0)
       → (i ≡ Halt) ⊎ Completes s i m (executeOf i m memory)
   unfolding executeOf movImmOf cmpImmOf andOf eorOf asrOf tstOf negOf cmpOf addHighOf cmpHighOf movHighOf strOf ldrOf strbOf ldrbOf addPcOf branchOf
   step-case (MovImm rd imm) h k a = inr (writes (MovImm rd imm) rd imm _ _ (omega (arith, h .0)) (exactly-sound imm (omega (arith, h .1))) refl)
@@ -115,9 +115,9 @@ module _ (s : State) (m : Machine) (memory : List ℕ) (long : length s ≡ 16) 
   step-case (MovHigh rs rd) h k a = inr (writes (MovHigh rs rd) rd _ _ _ (not-pc rd (h .1) k) (at rs (h .0)) refl)
   step-case (Str offset rb rd) h k a = inr (rw (aligned-then (effectiveAddress m rb (4 * offset)) _ _ (a refl)) (passes (Str offset rb rd) _ _ refl))
   step-case (Ldr offset rb rd) h k a =
-      inr (rw (aligned-then (effectiveAddress m rb (4 * offset)) _ _ (a refl)) (writes (Ldr offset rb rd) rd _ _ _ (omega (arith, h .1)) (unknown-sound _ (halfword-lt _)) refl))
+      inr (rw (aligned-then (effectiveAddress m rb (4 * offset)) _ _ (a refl)) (writes (Ldr offset rb rd) rd _ _ _ (omega (arith, h .2)) (unknown-sound _ (halfword-lt _)) refl))
   step-case (Strb offset rb rd) h k a = inr (passes (Strb offset rb rd) _ _ refl)
-  step-case (Ldrb offset rb rd) h k a = inr (writes (Ldrb offset rb rd) rd _ _ _ (omega (arith, h .1)) (byte-sound _ (bytes _)) refl)
+  step-case (Ldrb offset rb rd) h k a = inr (writes (Ldrb offset rb rd) rd _ _ _ (omega (arith, h .2)) (byte-sound _ (bytes _)) refl)
   step-case (AddPc rd imm) h k a = inr (writes (AddPc rd imm) rd (pcSum (pc m) imm) _ _ (omega (arith, h .0)) (exactly-sound (pcSum (pc m) imm) (omega arith)) refl)
   step-case (Branch condition offset) h k a = inr (branch-case condition offset (conditionOf condition (flags m)))
   step-case Halt h k a = inl refl

@@ -10,7 +10,7 @@ use Rattle.isa.specs.declared.decoder.Decoded.the-variants.{Defined, Undefined}
 use Rattle.isa.specs.declared.instruction.Instruction.the-variants.{CmpImm, Asr, Neg, AddHigh, CmpHigh, Halt}
 use Rattle.cpu.specs.Machine.{reg, flags, machine}
 use Rattle.cpu.specs.Step.{State, StepResult, executeOf, executeDecoded}
-use Rattle.cpu.specs.declared.machine.Flags.{Flags}
+use Rattle.cpu.specs.Machine.{Flags}
 use Rattle.cpu.specs.declared.machine.Machine.{Machine}
 use Rattle.image.specs.Pack.{imageOf}
 use Rattle.verifier.specs.Verify.{verifyOf}

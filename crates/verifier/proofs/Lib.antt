@@ -1,6 +1,8 @@
 pub mod Accepted
 pub mod Bits
-pub mod FirstNumber
+pub mod Jumps
 pub mod Marking
-pub mod Small
+pub mod Numbers
+pub mod Position
 pub mod Walk
+pub mod Words

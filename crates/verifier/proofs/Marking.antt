@@ -12,18 +12,14 @@ use Rattle.isa.specs.Decode.{decodeOf}
 use Rattle.isa.specs.declared.address.ByteAddress.{ByteAddress}
 use Rattle.isa.specs.declared.address.InstructionIndex.{InstructionIndex}
 use Rattle.isa.specs.declared.decoder.Decoded.{Decoded}
-use Rattle.isa.specs.declared.decoder.Decoded.the-variants.{Defined, Undefined}
-use Rattle.isa.specs.declared.instruction.Instruction.{Instruction}
 use Rattle.image.specs.Format.{mostCode}
-use Rattle.verifier.specs.Access.{jumpOf}
 use Rattle.verifier.specs.Targets.{addressOf, decodedAt, jumpAt, landsOn, goesTo, targetedBelow, markedAt}
 use Rattle.verifier.specs.declared.branch.Target.{Target}
 use Rattle.verifier.specs.declared.branch.Target.the-variants.{To, Nowhere}
 
 -- the jump that the code finds is that of the halfword
-pub jump-is : (a b : ByteAddress) (d e : Decoded) (i : Instruction) (t : Target) → e ≡ d → e ≡ Defined i → a ≡ b → t ≡ jumpOf a i
-    → jumpAt b d ≡ t
-jump-is a b d e i t p q r s = ap (jumpAt b) (sym p ∙ q) ∙ ap (λ (x : ByteAddress). jumpOf x i) (sym r) ∙ sym s
+pub jump-is : (a b : ByteAddress) (d : Decoded) (t : Target) → a ≡ b → t ≡ jumpAt a d → jumpAt b d ≡ t
+jump-is a b d t p q = ap (λ (x : ByteAddress). jumpAt x d) (sym p) ∙ sym q
 
 module _ (marks : List ℕ) (b : ByteAddress) (d : Decoded) where
   -- marks that stay are right where nothing is reached

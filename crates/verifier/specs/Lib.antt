@@ -1,6 +1,8 @@
 pub mod Access
 pub mod State
-pub mod Operands
+pub mod Words
+pub mod Position
 pub mod Targets
 pub mod Questions
+pub mod Numbers
 pub mod Verify

@@ -1,8 +1,8 @@
 // Where branches go.
 use isa::ByteAddress;
-use isa::Instruction;
 ghost use mathlib.Core.Path.{_≡_};
-ghost use Rattle.verifier.specs.Access.{jumpOf};
+ghost use Rattle.isa.specs.Decode.{decodeOf};
+ghost use Rattle.verifier.specs.Targets.{jumpAt};
 
 // Where an instruction can go, other than on to the next one.
 pub enum Target {
@@ -10,44 +10,22 @@ pub enum Target {
     Nowhere,
 }
 
-// Where the instruction at an address can go.
-pub(crate) fn jump(a: ByteAddress, i: Instruction) -> Target
-    ensures { λ r. ⌜ r ≡ jumpOf a i ⌝ }
+// The upper bytes of branches: 1101, then a condition from 0 to 13.
+const FIRST_BRANCH: u8 = 0xd0;
+
+const LAST_BRANCH: u8 = 0xdd;
+
+// Where the halfword at an address can go. It is looked at only as far as that
+// needs, because every halfword of a code is asked.
+pub(crate) fn jump(a: ByteAddress, h: u16) -> Target
+    ensures { λ r. ⌜ r ≡ jumpAt a (decodeOf h) ⌝ }
 {
-    match i {
-        Instruction::MovImm { rd: _, imm: _ } => Target::Nowhere,
-        Instruction::CmpImm { rd: _, imm: _ } => Target::Nowhere,
-        Instruction::And { rs: _, rd: _ } => Target::Nowhere,
-        Instruction::Eor { rs: _, rd: _ } => Target::Nowhere,
-        Instruction::Asr { rs: _, rd: _ } => Target::Nowhere,
-        Instruction::Tst { rs: _, rd: _ } => Target::Nowhere,
-        Instruction::Neg { rs: _, rd: _ } => Target::Nowhere,
-        Instruction::Cmp { rs: _, rd: _ } => Target::Nowhere,
-        Instruction::AddHigh { rs: _, rd: _ } => Target::Nowhere,
-        Instruction::CmpHigh { rs: _, rd: _ } => Target::Nowhere,
-        Instruction::MovHigh { rs: _, rd: _ } => Target::Nowhere,
-        Instruction::Str {
-            offset: _,
-            rb: _,
-            rd: _,
-        } => Target::Nowhere,
-        Instruction::Ldr {
-            offset: _,
-            rb: _,
-            rd: _,
-        } => Target::Nowhere,
-        Instruction::Strb {
-            offset: _,
-            rb: _,
-            rd: _,
-        } => Target::Nowhere,
-        Instruction::Ldrb {
-            offset: _,
-            rb: _,
-            rd: _,
-        } => Target::Nowhere,
-        Instruction::AddPc { rd: _, imm: _ } => Target::Nowhere,
-        Instruction::Branch { cond: _, offset } => Target::To(isa::branch_target(a, offset)),
-        Instruction::Halt => Target::Nowhere,
+    let upper = isa::bits(h, 8, 8);
+    if upper < FIRST_BRANCH {
+        return Target::Nowhere;
     }
+    if upper > LAST_BRANCH {
+        return Target::Nowhere;
+    }
+    Target::To(isa::branch_target(a, isa::bits(h, 0, 8)))
 }

@@ -4,9 +4,11 @@
 // instruction with the values before it.
 mod branch;
 mod checks;
+mod code;
 mod marks;
-mod operands;
+mod state;
 mod verifier;
+mod visits;
 
 pub use branch::Target;
 pub use verifier::Verdict;

@@ -1,10 +1,12 @@
 // The branch targets of a code: a mark for each instruction, a bit each.
 use super::branch::Target;
 use super::branch::jump;
+use super::code::FIRST_POSITION;
+use super::code::halfword_at;
+use super::code::position_after;
 use image::Checked;
 use image::Layout;
 use isa::ByteAddress;
-use isa::Decoded;
 use isa::InstructionIndex;
 ghost use mathlib.Core.Bool.{_||_};
 ghost use mathlib.Core.Path.{_≡_};
@@ -49,10 +51,7 @@ fn mark_target(marks: &mut [u64; 249], i: InstructionIndex, h: u16)
     ensures { λ r. ⌜ length (now (marks .exit)) ≡ markWords ⌝ }
     ensures { λ r. ⌜ ((j : ℕ) → j < mostCode → markedAt (now (marks .exit)) j ≡ (landsOn (jumpAt (byteAddressOf i) (decodeOf h)) j || markedAt (now (marks .entry)) j)) ⌝ }
 {
-    let Decoded::Defined(instruction) = isa::decode(h) else {
-        return;
-    };
-    let Target::To(a) = jump(isa::byte_address(i), instruction) else {
+    let Target::To(a) = jump(isa::byte_address(i), h) else {
         return;
     };
     let target = isa::instruction_index(a);
@@ -70,10 +69,11 @@ pub(crate) fn mark_targets(file: &[u8], layout: Layout) -> [u64; 249]
     let count = isa::instruction_index(ByteAddress(layout.code_bytes));
     let mut marks = [0u64; 249];
     let mut number = 0;
+    let mut position = FIRST_POSITION;
     while number < count.0 {
-        let i = InstructionIndex(number);
-        let h = image::code_at(file, i);
-        mark_target(&mut marks, i, h);
+        let h = halfword_at(file, position);
+        mark_target(&mut marks, InstructionIndex(number), h);
+        position = position_after(position);
         number += 1;
     }
     marks

@@ -1,15 +1,17 @@
 // The walk over a code, and the verdict on a file.
-use super::checks::first_no;
+use super::code::FIRST_POSITION;
+use super::code::halfword_at;
+use super::code::position_after;
 use super::marks::is_marked;
 use super::marks::mark_targets;
-use super::operands::PC_INDEX;
-use super::operands::REGISTERS;
-use super::operands::operands;
-use super::operands::result;
+use super::state::PC;
+use super::state::REGISTERS;
+use super::state::set_value;
+use super::state::word_of;
+use super::visits::first_no;
 use image::Checked;
 use image::Layout;
 use isa::ByteAddress;
-use isa::Decoded;
 use isa::InstructionIndex;
 use isa::Place;
 use isa::Refusal;
@@ -36,38 +38,31 @@ fn refused(number: u8, a: ByteAddress) -> Verdict
 }
 
 // Checks 9 to 14 of the code of an accepted file, lowest address first. `state`
-// holds the values of R0 to R15 before instruction `i`: unknown at address 0 and
-// at branch targets, but for R15, which is the instruction's own address.
+// holds the values of R0 to R15 before instruction `number`: unknown at address 0
+// and at branch targets, but for R15, which is the instruction's own address.
 fn walk(file: &[u8], layout: Layout) -> Verdict
     requires { ⌜ checkOf (now file) ≡ Checked.Valid layout ⌝ }
     ensures { λ r. ⌜ r ≡ verifyCode (codeOf (now (file .entry))) (layout .«window_start») (layout .«window_length») ⌝ }
 {
     let count = isa::instruction_index(ByteAddress(layout.code_bytes));
     let marks = mark_targets(file, layout);
-    let unknown = domain::unknown();
+    let unknown = word_of(domain::unknown());
     let mut state = [unknown; REGISTERS];
     let mut number = 0;
+    let mut position = FIRST_POSITION;
     while number < count.0 {
         let i = InstructionIndex(number);
         let a = isa::byte_address(i);
         if is_marked(&marks, i) {
             state = [unknown; REGISTERS];
         }
-        state[PC_INDEX] = domain::exactly(a.0);
-        let h = image::code_at(file, i);
-        let Decoded::Defined(instruction) = isa::decode(h) else {
-            return refused(9, a);
-        };
-        let registers = operands(instruction);
-        let rd = registers.rd as usize;
-        let rs = registers.rs as usize;
-        let d = state[rd];
-        let s = state[rs];
-        let no = first_no(s, layout, a, number + 1 == count.0, h, instruction);
+        set_value(&mut state, PC, domain::exactly(a.0));
+        let h = halfword_at(file, position);
+        let no = first_no(&mut state, layout, a, number + 1 == count.0, h);
         if no != 0 {
             return refused(no, a);
         }
-        state[rd] = result(a, instruction, d, s);
+        position = position_after(position);
         number += 1;
     }
     Verdict::Fit(layout)

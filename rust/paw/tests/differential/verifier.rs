@@ -1,15 +1,18 @@
 //! The verifier: number and place of every refusal, and what it answers to fit programs.
 
 use Instruction::*;
+use reference::audit::audit_with;
+use reference::cpu::{MEMORY_BYTES, Machine};
 use reference::domain::State;
 use reference::generate::{self, Rng};
 use reference::image::{Layout, MAX_BLOCKS, pack_file};
 use reference::instruction::{Instruction, encode};
+use reference::loader::place_code;
 use reference::program::Program;
 use reference::refusal::Refusal;
 use reference::table::SAMPLE;
 
-use crate::support::{answer, edges, number, rounds};
+use crate::support::{answer, edges, library_step, number, rounds};
 
 /// What both engines answer to a file.
 fn verified_file(file: &[u8]) -> Result<Layout, Refusal> {
@@ -351,4 +354,44 @@ fn files_that_are_no_images() {
     assert_eq!(number(&verified_file(&file)), 9);
     file[511] ^= 0x80;
     assert_eq!(number(&verified_file(&file)), 4);
+}
+
+/// Programs that a verifier with one check missing or weakened would pass, each with a start from
+/// which its run breaks demand 3. Both engines refuse them, and the audit says what the check bars.
+#[test]
+fn what_weaker_verifiers_would_pass() {
+    /// Code, window, the refusal, R0, R1 and Z at the start, and what the run then does.
+    type Case = (&'static [u16], (u16, u16), (u8, u16), (u16, u16, bool), &'static str);
+    let cases: [Case; 4] = [
+        // Facts kept at a landing place: BEQ +2 skips MOV R0, #16; STR R1, [R0]; HALT.
+        (
+            &[0xD002, 0x2010, 0x6001, 0x0000],
+            (16, 4),
+            (10, 4),
+            (0, 0xABCD, true),
+            "after 1 steps: access outside the window to 0",
+        ),
+        // Check 10 by sums that wrap: STRB R1, [R0, #31] with any R0; HALT.
+        (
+            &[0x77C1, 0x0000],
+            (8, 24),
+            (10, 0),
+            (0xFFE1, 0xAB, false),
+            "after 0 steps: access outside the window to 0",
+        ),
+        // No check 14: MOV R0, #0 and no HALT.
+        (&[0x2000], (4, 4), (14, 0), (0, 0, false), "after 1 steps: fetch outside the code at 2"),
+        // No check 12: MOV R15, R0; HALT.
+        (&[0x4687, 0x0000], (4, 4), (12, 0), (1, 0, false), "after 1 steps: odd fetch at 1"),
+    ];
+    for (code, (w, l), (number, place), (r0, r1, z), breaks) in cases {
+        let program = Program { code: code.to_vec(), w, l };
+        assert_eq!(verified(&program), Err(Refusal { number, place }), "{program:x?}");
+        let mut memory = vec![0; MEMORY_BYTES];
+        place_code(code, &mut memory);
+        let mut machine = Machine { z, ..Machine::default() };
+        (machine.regs[0], machine.regs[1]) = (r0, r1);
+        let said = audit_with(library_step, &program, &mut machine, &mut memory, 10).unwrap_err();
+        assert!(said.starts_with(breaks), "{program:x?}: {said}");
+    }
 }

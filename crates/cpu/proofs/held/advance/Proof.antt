@@ -1,5 +1,5 @@
--- R15 is moved on, and its copy is read back.
-use Rattle.cpu.proofs.Ends.{advance-holds}
+-- The PC moves on, and the flags stand.
+use mathlib.Core.Path.{_∙_}
 use borrow.Author.Needs.{needs}
 use Rattle.cpu.proofs.held.advance.Statement.{statement}
 use Rattle.cpu.proofs.held.advance.Tie as tie
@@ -9,7 +9,5 @@ advance-spec =
     tie.close
     (tie.spec
     (λ c κs. search needs)
-    (λ c. search needs)
-    (λ c. search needs)
     (λ c κs. search needs)
-    (λ c. advance-holds (c .before .before .before .args .regs .now) (c .control-at .result) (c .before .before .before .args .f) _ _ (c .before .before .before .pre) (c .before .before .wrapping-add-u16 .ensures) (c .control-at .ensures)))
+    (λ c. c .control-at .ensures ∙ rw (c .before .wrapping-add-u16 .ensures)))

@@ -1,4 +1,4 @@
--- R15 is moved on, and a result for one of R0 to R7 leaves it alone.
+-- A result for one of R0 to R7 leaves the PC to move on.
 use native.Mathlib.Omega.{arith}
 use Rattle.cpu.proofs.Ends.{write-holds}
 use borrow.Author.Needs.{needs}
@@ -9,10 +9,7 @@ pub write-low-spec : {M : Type 1} → statement M
 write-low-spec =
     tie.close
     (tie.spec
-    (λ c κs. search needs)
-    (λ c. search needs)
-    (λ c. search needs)
     (λ c. search needs)
     (λ c. search needs)
     (λ c κs. search needs)
-    (λ c. write-holds (c .before .before .before .args .regs .now) (c .control-at .result) (c .before .before .before .args .f) _ _ (c .before .before .before .pre .0) (c .before .before .wrapping-add-u16 .ensures) (c .before .before .before .args .rd) (c .before .before .before .args .x) (λ e. omega (arith, e, c .before .before .before .pre .1)) (c .control-at .ensures)))
+    (λ c. write-holds (c .before .args .regs .now) (c .before .args .pc) (c .before .pre .0) (c .before .args .rd) (c .before .args .x) (c .advance .result) (c .before .args .status) (λ e. omega (arith, e, c .before .pre .1)) (c .advance .ensures)))

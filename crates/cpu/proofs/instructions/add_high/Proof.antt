@@ -1,4 +1,5 @@
--- The sum and its flags are the definition's.
+-- The PC is put in its place first; the sum and its flags are the definition's.
+use Rattle.cpu.proofs.Ends.{set-whole, set-again, flags-as}
 use Rattle.cpu.specs.Step.{addHighOf}
 use borrow.Author.Needs.{needs}
 use Rattle.cpu.proofs.instructions.add_high.Statement.{statement}
@@ -13,7 +14,8 @@ add-high-spec =
     (λ c. search needs)
     (λ c. search needs)
     (λ c. search needs)
+    (λ c. search needs)
     (λ c κs. search needs)
     (λ c κs. search needs)
-    (λ c κs. search needs)
-    (λ c. simp (c .before .sum-flags .ensures, c .before .before .before .sum .ensures) at (c .write .ensures)))
+    (λ c κs. (set-whole (c .before .before .before .before .before .args .regs .now) (c .before .before .before .before .before .args .k .pc) (c .before .before .before .before .before .pre .0), search needs))
+    (λ c. simp (c .before .before .before .sum .ensures, set-again (c .before .before .before .before .before .before .args .regs .now) (c .before .before .before .before .before .before .args .k .pc)) at (flags-as _ _ _ (c .before .sum-status .result) _ (c .before .sum-status .ensures) (c .write .ensures))))

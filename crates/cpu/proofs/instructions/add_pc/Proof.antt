@@ -1,4 +1,5 @@
--- The PC's copy is true, so the address is that of this instruction.
+-- The sum is the definition's; no flag changes.
+use Rattle.cpu.proofs.Ends.{pc-is}
 use Rattle.cpu.specs.Step.{addPcOf}
 use borrow.Author.Needs.{needs}
 use Rattle.cpu.proofs.instructions.add_pc.Statement.{statement}
@@ -12,4 +13,4 @@ add-pc-spec =
     (λ c κs. search needs)
     (λ c κs. search needs)
     (λ c κs. search needs)
-    (λ c. simp (c .before .before .before .pc-relative .ensures, c .before .flags-in .ensures, c .before .before .before .before .pre .0) at (c .write-low .ensures)))
+    (λ c. let p = pc-is (c .before .before .before .before .args .regs .now) (c .before .before .before .before .args .k .pc) (c .before .before .before .before .pre .0) in simp p (simp (c .before .status-in .ensures, c .before .before .before .pc-relative .ensures, p) at (c .write-low .ensures))))

@@ -1,4 +1,5 @@
 -- The shift is taken from Rs before Rd is written.
+use Rattle.cpu.proofs.Ends.{low-is, flags-as}
 use Rattle.cpu.specs.Step.{asrOf}
 use borrow.Author.Needs.{needs}
 use Rattle.cpu.proofs.instructions.asr.Statement.{statement}
@@ -17,4 +18,4 @@ asr-spec =
     (λ c κs. search needs)
     (λ c κs. search needs)
     (λ c κs. search needs)
-    (λ c. simp (c .before .shift-flags .ensures, c .before .before .flags-in .ensures, c .before .before .before .before .shift .ensures) at (c .write-low .ensures)))
+    (λ c. simp (low-is (c .before .before .before .before .before .before .before .args .regs .now) (c .before .before .before .before .before .before .before .args .k .pc) (c .before .before .before .before .before .before .before .pre .0) (c .before .before .before .before .before .before .before .args .rd) (search needs), low-is (c .before .before .before .before .before .before .before .args .regs .now) (c .before .before .before .before .before .before .before .args .k .pc) (c .before .before .before .before .before .before .before .pre .0) (c .before .before .before .before .before .before .before .args .rs) (search needs)) (simp (c .before .before .status-in .ensures, c .before .before .before .before .shift .ensures) at (flags-as _ _ _ (c .before .shift-status .result) _ (c .before .shift-status .ensures) (c .write-low .ensures)))))

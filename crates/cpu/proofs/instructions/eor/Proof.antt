@@ -1,4 +1,5 @@
 -- The result is the definition's, and N and Z are set from it.
+use Rattle.cpu.proofs.Ends.{low-is, flags-as}
 use Rattle.cpu.specs.Step.{eorOf}
 use borrow.Author.Needs.{needs}
 use Rattle.cpu.proofs.instructions.eor.Statement.{statement}
@@ -16,4 +17,4 @@ eor-spec =
     (λ c κs. search needs)
     (λ c κs. search needs)
     (λ c κs. search needs)
-    (λ c. simp (c .before .result-flags .ensures, c .before .before .flags-in .ensures) at (c .write-low .ensures)))
+    (λ c. simp (low-is (c .before .before .before .before .before .before .args .regs .now) (c .before .before .before .before .before .before .args .k .pc) (c .before .before .before .before .before .before .pre .0) (c .before .before .before .before .before .before .args .rd) (search needs), low-is (c .before .before .before .before .before .before .args .regs .now) (c .before .before .before .before .before .before .args .k .pc) (c .before .before .before .before .before .before .pre .0) (c .before .before .before .before .before .before .args .rs) (search needs)) (simp (c .before .before .status-in .ensures) at (flags-as _ _ _ (c .before .result-status .result) _ (c .before .result-status .ensures) (c .write-low .ensures)))))

@@ -1,4 +1,5 @@
--- The byte at the address goes to Rd.
+-- The byte at the address goes to Rd; no flag changes.
+use Rattle.cpu.proofs.Ends.{low-is}
 use Rattle.cpu.specs.Step.{ldrbOf}
 use borrow.Author.Needs.{needs}
 use Rattle.cpu.proofs.instructions.ldrb.Statement.{statement}
@@ -16,4 +17,4 @@ ldrb-spec =
     (λ c κs. search needs)
     (λ c κs. search needs)
     (λ c κs. search needs)
-    (λ c. simp (c .before .flags-in .ensures, c .before .before .before .load-byte .ensures, c .before .before .before .before .effective-address .ensures) at (c .write-low .ensures)))
+    (λ c. simp (low-is (c .before .before .before .before .before .before .before .args .regs .now) (c .before .before .before .before .before .before .before .args .k .pc) (c .before .before .before .before .before .before .before .pre .0) (c .before .before .before .before .before .before .before .args .rb) (search needs)) (simp (c .before .status-in .ensures, c .before .before .before .load-byte .ensures, c .before .before .before .before .effective-address .ensures) at (c .write-low .ensures))))

@@ -1,4 +1,5 @@
--- Rs goes to Rd, and N and Z are set from it.
+-- The PC is put in its place first; the result is Rs, and N and Z are set from it.
+use Rattle.cpu.proofs.Ends.{set-whole, set-again, flags-as}
 use Rattle.cpu.specs.Step.{movHighOf}
 use borrow.Author.Needs.{needs}
 use Rattle.cpu.proofs.instructions.mov_high.Statement.{statement}
@@ -11,7 +12,8 @@ mov-high-spec =
     (tie.spec
     (λ c. search needs)
     (λ c. search needs)
+    (λ c. search needs)
     (λ c κs. search needs)
     (λ c κs. search needs)
-    (λ c κs. search needs)
-    (λ c. simp (c .before .result-flags .ensures, c .before .before .flags-in .ensures) at (c .write .ensures)))
+    (λ c κs. (set-whole (c .before .before .before .before .args .regs .now) (c .before .before .before .before .args .k .pc) (c .before .before .before .before .pre .0), search needs))
+    (λ c. simp (c .before .before .status-in .ensures, set-again (c .before .before .before .before .before .args .regs .now) (c .before .before .before .before .before .args .k .pc)) at (flags-as _ _ _ (c .before .result-status .result) _ (c .before .result-status .ensures) (c .write .ensures))))

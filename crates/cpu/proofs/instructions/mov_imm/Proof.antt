@@ -1,4 +1,5 @@
--- The immediate goes to Rd, and N and Z are set from it.
+-- The result is the immediate, and N and Z are set from it.
+use Rattle.cpu.proofs.Ends.{flags-as}
 use Rattle.cpu.specs.Step.{movImmOf}
 use borrow.Author.Needs.{needs}
 use Rattle.cpu.proofs.instructions.mov_imm.Statement.{statement}
@@ -12,4 +13,4 @@ mov-imm-spec =
     (λ c κs. search needs)
     (λ c κs. search needs)
     (λ c κs. search needs)
-    (λ c. simp (c .before .result-flags .ensures, c .before .before .flags-in .ensures) at (c .write-low .ensures)))
+    (λ c. simp (c .before .before .status-in .ensures) at (flags-as _ _ _ (c .before .result-status .result) _ (c .before .result-status .ensures) (c .write-low .ensures))))

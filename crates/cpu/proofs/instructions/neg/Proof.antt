@@ -1,4 +1,5 @@
--- NEG is the difference of 0 and Rs.
+-- The difference and its flags are the definition's.
+use Rattle.cpu.proofs.Ends.{low-is, flags-as}
 use Rattle.cpu.specs.Step.{negOf}
 use borrow.Author.Needs.{needs}
 use Rattle.cpu.proofs.instructions.neg.Statement.{statement}
@@ -14,4 +15,4 @@ neg-spec =
     (λ c κs. search needs)
     (λ c κs. search needs)
     (λ c κs. search needs)
-    (λ c. simp (c .before .difference-flags .ensures, c .before .before .before .difference .ensures) at (c .write-low .ensures)))
+    (λ c. simp (low-is (c .before .before .before .before .before .args .regs .now) (c .before .before .before .before .before .args .k .pc) (c .before .before .before .before .before .pre .0) (c .before .before .before .before .before .args .rs) (search needs)) (simp (c .before .before .before .difference .ensures) at (flags-as _ _ _ (c .before .difference-status .result) _ (c .before .difference-status .ensures) (c .write-low .ensures)))))

@@ -1,4 +1,5 @@
--- Only N and Z of the AND are kept.
+-- Only the flags of the result are kept.
+use Rattle.cpu.proofs.Ends.{low-is, advance-holds}
 use Rattle.cpu.specs.Step.{tstOf}
 use borrow.Author.Needs.{needs}
 use Rattle.cpu.proofs.instructions.tst.Statement.{statement}
@@ -16,4 +17,4 @@ tst-spec =
     (λ c κs. search needs)
     (λ c κs. search needs)
     (λ c κs. search needs)
-    (λ c. simp (c .before .result-flags .ensures, c .before .before .flags-in .ensures) at (c .advance .ensures)))
+    (λ c. simp (low-is (c .before .before .before .before .before .args .regs .now) (c .before .before .before .before .before .args .k .pc) (c .before .before .before .before .before .pre .0) (c .before .before .before .before .before .args .rd) (search needs), low-is (c .before .before .before .before .before .args .regs .now) (c .before .before .before .before .before .args .k .pc) (c .before .before .before .before .before .pre .0) (c .before .before .before .before .before .args .rs) (search needs)) (simp (c .before .before .status-in .ensures) at (advance-holds (c .before .before .before .before .before .args .regs .now) (c .before .before .before .before .before .args .k .pc) (c .before .before .before .before .before .pre .0) (c .advance .result) (c .before .result-status .result) _ (c .advance .ensures) (c .before .result-status .ensures)))))

@@ -6,7 +6,7 @@ use lib.ListN.{length}
 use mathlib.Core.Path.{_≡_, sym, _∙_}
 use Rattle.cpu.specs.Memory.{memorySize}
 use Rattle.cpu.specs.Run.{runFrom}
-use Rattle.cpu.specs.Held.{held, Current}
+use Rattle.cpu.specs.Held.{held, Whole}
 use Rattle.cpu.proofs.Runs.{state, run-refused, run-starts, run-spent, run-ends, run-again}
 use Rattle.cpu.proofs.runner.run.Statement.{statement}
 use Rattle.cpu.proofs.runner.run.Tie as tie
@@ -16,7 +16,7 @@ Inv-loop memory₀ budget regs₀ k₀ count₀ memory regs k count =
     (count ≤ budget)
     × (length memory₀ ≡ memorySize)
     × (length memory ≡ memorySize)
-    × Current regs k
+    × Whole regs
     × (runFrom (budget - count) count (state (held regs k) memory) ≡ runFrom budget 0 (state (held regs₀ k₀) memory₀))
 
 abbrev μ-loop : tie.MeasureT-loop
@@ -31,24 +31,24 @@ run-spec =
     (λ c κs. search needs)
     (λ c. run-refused _ _ _ _ (c .before .if1 .taken) (c .wrong-size .ensures))
     (λ c κs. search needs)
-    (λ c. (omega arith, c .before .before .if1 .left, c .before .before .if1 .left, c .control-of .ensures .copy, run-starts _ _))
+    (λ c. (omega arith, c .before .before .if1 .left, c .before .before .if1 .left, search needs, run-starts _ _))
     (λ c κs. search needs)
     (λ c. search needs)
     (λ c. search needs)
     (λ c. search needs)
-    (λ c. (omega arith, c .before .before .before .before .before .before .before .before .before .loop .inv .1, c .before .before .before .before .before .fetch-and-execute .kept .1 .1 .0 ∙ c .before .before .before .before .before .before .before .before .before .loop .inv .2, c .before .before .before .before .before .fetch-and-execute .ensures .copy, run-again _ (c .before .before .before .before .before .before .before .before .before .loop .regs) _ _ _ (c .before .before .before .before .before .before .before .before .before .loop .k) (c .before .before .before .before .before .before .before .before .before .loop .count) (c .before .before .before .before .before .fetch-and-execute .result) _ (c .before .before .before .before .before .before .before .before .loop-test .taken) (c .before .before .before .before .before .before .before .before .before .loop .inv .2) (c .before .before .before .before .before .fetch-and-execute .ensures) (c .enum-told .given .1) (c .before .before .before .before .before .before .before .before .before .loop .inv .4)))
+    (λ c. (omega arith, c .before .before .before .before .before .before .before .before .before .loop .inv .1, c .before .before .before .before .before .fetch-and-execute .kept .1 .1 .0 ∙ c .before .before .before .before .before .before .before .before .before .loop .inv .2, c .before .before .before .before .before .fetch-and-execute .ensures .whole, run-again _ (c .before .before .before .before .before .before .before .before .before .loop .regs) _ _ _ (c .before .before .before .before .before .before .before .before .before .loop .k) (c .before .before .before .before .before .before .before .before .before .loop .count) (c .before .before .before .before .before .fetch-and-execute .result) _ (c .before .before .before .before .before .before .before .before .loop-test .taken) (c .before .before .before .before .before .before .before .before .before .loop .inv .2) (c .before .before .before .before .before .fetch-and-execute .ensures) (c .enum-told .given .1) (c .before .before .before .before .before .before .before .before .before .loop .inv .4)))
     (λ c. search needs)
     (λ c κs. search needs)
     (λ c. c .before .before .before .before .before .before .fetch-and-execute .kept .1 .1 .0 ∙ (c .before .before .before .before .before .before .before .before .before .before .loop .inv .2 ∙ sym (c .before .before .before .before .before .before .before .before .before .before .loop .inv .1)))
-    (λ c. run-ends _ _ _ (c .before .before .before .before .before .before .before .before .before .before .loop .inv .1) (c .before .before .before .before .before .before .before .before .before .before .before .before .before .before .before .args .m .regs) (c .before .before .before .before .before .before .before .before .before .before .loop .regs) _ (c .before .before .before .before .before .before .before .before .before .before .before .control-of .result) (c .before .before .before .before .before .before .before .before .before .before .loop .k) (c .before .before .before .before .before .before .before .before .before .before .loop .count) (c .before .before .before .before .before .before .before .before .before .before .before .control-of .ensures .machine) (c .before .before .before .before .before .before .before .before .before .before .loop .inv .4) (c .ended .result) _ _ (c .before .before .before .before .before .before .fetch-and-execute .result) _ (c .before .before .before .before .before .before .before .before .before .loop-test .taken) (c .before .before .before .before .before .before .before .before .before .before .loop .inv .2) (c .before .before .before .before .before .before .fetch-and-execute .ensures) (λ rest. rw (c .before .enum-told2 .given .1)) (c .ended .ensures))
+    (λ c. run-ends _ _ _ (c .before .before .before .before .before .before .before .before .before .before .loop .inv .1) (c .before .before .before .before .before .before .before .before .before .before .before .before .before .before .before .args .m .regs) (c .before .before .before .before .before .before .before .before .before .before .loop .regs) _ (c .before .before .before .before .before .before .before .before .before .before .before .control-of .result) (c .before .before .before .before .before .before .before .before .before .before .loop .k) (c .before .before .before .before .before .before .before .before .before .before .loop .count) (c .before .before .before .before .before .before .before .before .before .before .before .control-of .ensures) (c .before .before .before .before .before .before .before .before .before .before .loop .inv .4) (c .ended .result) _ _ (c .before .before .before .before .before .before .fetch-and-execute .result) _ (c .before .before .before .before .before .before .before .before .before .loop-test .taken) (c .before .before .before .before .before .before .before .before .before .before .loop .inv .2) (c .before .before .before .before .before .before .fetch-and-execute .ensures) (λ rest. rw (c .before .enum-told2 .given .1)) (c .ended .ensures))
     (λ c. search needs)
     (λ c κs. search needs)
     (λ c. c .before .before .before .before .before .before .before .fetch-and-execute .kept .1 .1 .0 ∙ (c .before .before .before .before .before .before .before .before .before .before .before .loop .inv .2 ∙ sym (c .before .before .before .before .before .before .before .before .before .before .before .loop .inv .1)))
-    (λ c. run-ends _ _ _ (c .before .before .before .before .before .before .before .before .before .before .before .loop .inv .1) (c .before .before .before .before .before .before .before .before .before .before .before .before .before .before .before .before .args .m .regs) (c .before .before .before .before .before .before .before .before .before .before .before .loop .regs) _ (c .before .before .before .before .before .before .before .before .before .before .before .before .control-of .result) (c .before .before .before .before .before .before .before .before .before .before .before .loop .k) (c .before .before .before .before .before .before .before .before .before .before .before .loop .count) (c .before .before .before .before .before .before .before .before .before .before .before .before .control-of .ensures .machine) (c .before .before .before .before .before .before .before .before .before .before .before .loop .inv .4) (c .ended2 .result) _ _ (c .before .before .before .before .before .before .before .fetch-and-execute .result) _ (c .before .before .before .before .before .before .before .before .before .before .loop-test .taken) (c .before .before .before .before .before .before .before .before .before .before .before .loop .inv .2) (c .before .before .before .before .before .before .before .fetch-and-execute .ensures) (λ rest. rw (c .before .before .outcome .given .1)) (c .ended2 .ensures))
+    (λ c. run-ends _ _ _ (c .before .before .before .before .before .before .before .before .before .before .before .loop .inv .1) (c .before .before .before .before .before .before .before .before .before .before .before .before .before .before .before .before .args .m .regs) (c .before .before .before .before .before .before .before .before .before .before .before .loop .regs) _ (c .before .before .before .before .before .before .before .before .before .before .before .before .control-of .result) (c .before .before .before .before .before .before .before .before .before .before .before .loop .k) (c .before .before .before .before .before .before .before .before .before .before .before .loop .count) (c .before .before .before .before .before .before .before .before .before .before .before .before .control-of .ensures) (c .before .before .before .before .before .before .before .before .before .before .before .loop .inv .4) (c .ended2 .result) _ _ (c .before .before .before .before .before .before .before .fetch-and-execute .result) _ (c .before .before .before .before .before .before .before .before .before .before .loop-test .taken) (c .before .before .before .before .before .before .before .before .before .before .before .loop .inv .2) (c .before .before .before .before .before .before .before .fetch-and-execute .ensures) (λ rest. rw (c .before .before .outcome .given .1)) (c .ended2 .ensures))
     (λ c. search needs)
     (λ c κs. search needs)
     (λ c. c .before .before .before .before .before .before .before .fetch-and-execute .kept .1 .1 .0 ∙ (c .before .before .before .before .before .before .before .before .before .before .before .loop .inv .2 ∙ sym (c .before .before .before .before .before .before .before .before .before .before .before .loop .inv .1)))
-    (λ c. run-ends _ _ _ (c .before .before .before .before .before .before .before .before .before .before .before .loop .inv .1) (c .before .before .before .before .before .before .before .before .before .before .before .before .before .before .before .before .args .m .regs) (c .before .before .before .before .before .before .before .before .before .before .before .loop .regs) _ (c .before .before .before .before .before .before .before .before .before .before .before .before .control-of .result) (c .before .before .before .before .before .before .before .before .before .before .before .loop .k) (c .before .before .before .before .before .before .before .before .before .before .before .loop .count) (c .before .before .before .before .before .before .before .before .before .before .before .before .control-of .ensures .machine) (c .before .before .before .before .before .before .before .before .before .before .before .loop .inv .4) (c .ended3 .result) _ _ (c .before .before .before .before .before .before .before .fetch-and-execute .result) _ (c .before .before .before .before .before .before .before .before .before .before .loop-test .taken) (c .before .before .before .before .before .before .before .before .before .before .before .loop .inv .2) (c .before .before .before .before .before .before .before .fetch-and-execute .ensures) (λ rest. rw (c .before .before .outcome2 .given .1)) (c .ended3 .ensures))
+    (λ c. run-ends _ _ _ (c .before .before .before .before .before .before .before .before .before .before .before .loop .inv .1) (c .before .before .before .before .before .before .before .before .before .before .before .before .before .before .before .before .args .m .regs) (c .before .before .before .before .before .before .before .before .before .before .before .loop .regs) _ (c .before .before .before .before .before .before .before .before .before .before .before .before .control-of .result) (c .before .before .before .before .before .before .before .before .before .before .before .loop .k) (c .before .before .before .before .before .before .before .before .before .before .before .loop .count) (c .before .before .before .before .before .before .before .before .before .before .before .before .control-of .ensures) (c .before .before .before .before .before .before .before .before .before .before .before .loop .inv .4) (c .ended3 .result) _ _ (c .before .before .before .before .before .before .before .fetch-and-execute .result) _ (c .before .before .before .before .before .before .before .before .before .before .loop-test .taken) (c .before .before .before .before .before .before .before .before .before .before .before .loop .inv .2) (c .before .before .before .before .before .before .before .fetch-and-execute .ensures) (λ rest. rw (c .before .before .outcome2 .given .1)) (c .ended3 .ensures))
     (λ c κs. search needs)
     (λ c. c .before .before .loop .inv .2 ∙ sym (c .before .before .loop .inv .1))
-    (λ c. run-spent _ _ _ (c .before .before .loop .inv .1) (c .before .before .before .before .before .before .before .args .m .regs) (c .before .before .loop .regs) _ (c .before .before .before .control-of .result) (c .before .before .loop .k) (c .before .before .loop .count) (c .before .before .before .control-of .ensures .machine) (c .before .before .loop .inv .4) (c .ended4 .result) (c .before .loop-test .left) (c .ended4 .ensures)))
+    (λ c. run-spent _ _ _ (c .before .before .loop .inv .1) (c .before .before .before .before .before .before .before .args .m .regs) (c .before .before .loop .regs) _ (c .before .before .before .control-of .result) (c .before .before .loop .k) (c .before .before .loop .count) (c .before .before .before .control-of .ensures) (c .before .before .loop .inv .4) (c .ended4 .result) (c .before .loop-test .left) (c .ended4 .ensures)))

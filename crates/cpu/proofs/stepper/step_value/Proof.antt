@@ -1,5 +1,5 @@
--- The machine is taken apart, stepped, and put together again.
-use Rattle.cpu.proofs.Fetch.{refused, stepped}
+-- A run of one step ends as the step does.
+use Rattle.cpu.proofs.Runs.{stepped}
 use borrow.Author.Needs.{needs}
 use Rattle.cpu.proofs.stepper.step_value.Statement.{statement}
 use Rattle.cpu.proofs.stepper.step_value.Tie as tie
@@ -9,9 +9,6 @@ step-value-spec =
     tie.close
     (tie.spec
     (λ c κs. search needs)
-    (λ c. refused _ _ _ (c .before .if1 .taken) (c .wrong-size .ensures))
-    (λ c κs. search needs)
-    (λ c κs. search needs)
     (λ c κs. search needs)
     (λ c. search needs)
-    (λ c. stepped _ _ _ (c .before .before .before .before .before .before .control-of .result) _ _ _ (c .before .before .before .before .fetch-and-execute .result) (c .before .before .before .before .before .before .before .before .before .if1 .left) (c .before .before .before .before .before .before .control-of .ensures .machine) (c .before .before .before .before .fetch-and-execute .ensures) (c .assemble .ensures)))
+    (λ c. rw (c .step-outcome .ensures) (stepped _ _ _ _ _ (c .before .before .before .before .run .result .count) (c .before .before .before .before .run .ensures))))

@@ -8,32 +8,34 @@ use native.Mathlib.Numerals.{add-one}
 use native.Mathlib.Omega.{arith}
 use borrow.Author.Needs.{needs}
 use lib.Dec.{eqb}
-use lib.ListN.{length, getD, set, replicate}
+use lib.ListN.{length, getD, replicate}
 use Rattle.isa.specs.declared.address.ByteAddress.{ByteAddress}
 use Rattle.image.specs.Check.{firstNo}
-use Rattle.image.specs.Code.{codeOf}
+use Rattle.image.specs.Code.{codePosition, codeOf}
 use Rattle.image.specs.declared.answer.Answer.the-variants.{Pass}
 use Rattle.image.specs.declared.checker.Layout.{Layout}
-use Rattle.image.proofs.Valid.{valid-code, code-in-file, code-halfword}
+use Rattle.image.proofs.Valid.{valid-code}
+use Rattle.verifier.specs.Position.{positionAfter}
 use Rattle.verifier.specs.State.{State, unknownState}
+use Rattle.verifier.specs.Words.{stateOf}
 use Rattle.verifier.specs.Targets.{targeted}
 use Rattle.verifier.specs.Questions.{answerAt}
 use Rattle.verifier.specs.Verify.{entering, valuesAt, checksAt, codeChecks, verdictBelow}
-use Rattle.verifier.specs.declared.operands.Registers.{Registers}
 use Rattle.verifier.specs.declared.verifier.Verdict.the-variants.{Fit}
-use Rattle.verifier.proofs.Accepted.{count-is, layout-is}
-use Rattle.verifier.proofs.Small.{registers-small}
-use Rattle.verifier.proofs.Walk.{arrives, read, read-is, length-values, answer-refused, next, refusal, fit, undefined, checked, left}
+use Rattle.verifier.proofs.Accepted.{count-is, position-inside, position-small, halfword-is, layout-is}
+use Rattle.verifier.proofs.Position.{position-next}
+use Rattle.verifier.proofs.Walk.{arrives, length-values, answer-refused, next, refusal, fit, checked, left}
+use Rattle.verifier.proofs.Words.{length-state, state-replicate}
 use Rattle.verifier.proofs.verifier.walk.Statement.{statement}
 use Rattle.verifier.proofs.verifier.walk.Tie as tie
 
 abbrev Inv-loop : tie.InvT-loop
-Inv-loop file layout count marks unknown state₀ number₀ state number =
-    (number ≤ count .0) × (state ≡ entering (codeOf file) number)
+Inv-loop file layout count marks unknown state₀ number₀ position₀ state number position =
+    (number ≤ count .0) × (position ≡ codePosition number) × (stateOf state ≡ entering (codeOf file) number)
     × (verdictBelow (codeOf file) (layout .«window_start») (layout .«window_length») number ≡ Pass)
 
 abbrev μ-loop : tie.MeasureT-loop
-μ-loop file layout count marks unknown state₀ number₀ state number = count .0 - number
+μ-loop file layout count marks unknown state₀ number₀ position₀ state number position = count .0 - number
 
 -- ---- the turns
 
@@ -41,16 +43,20 @@ abbrev μ-loop : tie.MeasureT-loop
 turns : (c : tie.After-instruction-index Inv-loop μ-loop) → c .instruction-index .result .0 ≡ length (codeOf (c .before .before .args .file .now))
 turns c = count-is _ _ (c .before .before .pre) (c .instruction-index .result) (c .instruction-index .ensures)
 
+-- the words of a state of which nothing is known
+unknown-is : (c : tie.After-word-of Inv-loop μ-loop) → stateOf (replicate 16 (c .word-of .result)) ≡ unknownState
+unknown-is c = state-replicate 16 (c .word-of .result) ∙ ap (replicate 16) (c .word-of .ensures ∙ c .before .unknown .ensures)
+
 loop-holds : tie.Need-loop-holds Inv-loop μ-loop
 unfolding entering verdictBelow codeChecks firstNo
-loop-holds c = (search needs, ap (replicate 16) (c .unknown .ensures), refl)
+loop-holds c = (search needs, refl, unknown-is c, refl)
 
 -- the places before a turn: the function's entry, and the count of turns
 abbrev entry : tie.Then1 Inv-loop μ-loop → tie.Start Inv-loop μ-loop
-entry c = c .before .before .before .before .before .before .before
+entry c = c .before .before .before .before .before .before .before .before
 
 abbrev counted : tie.Then1 Inv-loop μ-loop → tie.After-instruction-index Inv-loop μ-loop
-counted c = c .before .before .before .before .before
+counted c = c .before .before .before .before .before .before
 
 -- what a turn is about
 abbrev code : tie.Then1 Inv-loop μ-loop → List ℕ
@@ -81,130 +87,103 @@ turn c = c .before .before .before .before
 
 -- the state is reset at a branch target
 state-is : (c : tie.Joined2 Inv-loop μ-loop)
-    → c .if2 .state ≡ cond (targeted (code (turn c)) (number (turn c))) unknownState (entering (code (turn c)) (number (turn c)))
+    → stateOf (c .if2 .state) ≡ cond (targeted (code (turn c)) (number (turn c))) unknownState (entering (code (turn c)) (number (turn c)))
 state-is c =
     let t = turn c in
     let n = inside t in
     let m = valid-code _ _ (entry t .pre) in
     let e : c .before .is-marked .result ≡ targeted (code t) (number t)
-    = c .before .is-marked .ensures ∙ t .before .before .before .before .mark-targets .ensures (number t) (omega arith) in
+    = c .before .is-marked .ensures ∙ t .before .before .before .before .before .mark-targets .ensures (number t) (omega arith) in
     let pick : Bool → State = λ b. cond b unknownState (entering (code t) (number t)) in
     ⊎-elim
-    (λ x. x .1 ∙ ap (replicate 16) (t .before .before .before .unknown .ensures) ∙ sym (ap pick (sym e ∙ x .0 .taken)))
-    (λ x. x .1 ∙ t .before .before .loop .inv .1 ∙ sym (ap pick (sym e ∙ x .0 .left)))
+    (λ x. ap stateOf (x .1) ∙ unknown-is (t .before .before .before) ∙ sym (ap pick (sym e ∙ x .0 .taken)))
+    (λ x. ap stateOf (x .1) ∙ t .before .before .loop .inv .2 ∙ sym (ap pick (sym e ∙ x .0 .left)))
     (c .if2 .came)
 
--- the address of the instruction, and the state with it in R15
-abbrev address : tie.After-exactly Inv-loop μ-loop → ByteAddress
-address c = c .before .before .before .before .byte-address .result
+-- the turn, from where the address is in R15
+abbrev placed : tie.After-set-value Inv-loop μ-loop → tie.Then1 Inv-loop μ-loop
+placed c = turn (c .before .before .before)
 
-abbrev state : tie.After-exactly Inv-loop μ-loop → State
-state c = set (c .before .if2 .state) 15 (c .exactly .result)
+abbrev address : tie.After-set-value Inv-loop μ-loop → ByteAddress
+address c = c .before .before .before .before .before .before .byte-address .result
 
--- it is the definition's
-values-are : (c : tie.After-exactly Inv-loop μ-loop) → state c ≡ valuesAt (code (turn (c .before))) (number (turn (c .before)))
+abbrev state : tie.After-set-value Inv-loop μ-loop → State
+state c = stateOf (c .set-value .last .0)
+
+-- the state is the definition's
+values-are : (c : tie.After-set-value Inv-loop μ-loop) → state c ≡ valuesAt (code (placed c)) (number (placed c))
 values-are c =
-    arrives _ _ (address c) (c .before .if2 .state) (c .exactly .result) (c .before .before .before .before .byte-address .ensures) (state-is (c .before)) (c .exactly .ensures)
-
-length-is : (c : tie.After-exactly Inv-loop μ-loop) → length (state c) ≡ 16
-length-is c = ap length (values-are c) ∙ length-values (code (turn (c .before))) (number (turn (c .before)))
+    c .set-value .ensures
+    ∙ arrives _ _ (address c) _ (c .before .exactly .result) (c .before .before .before .before .before .before .byte-address .ensures)
+    (state-is (c .before .before .before)) (c .before .exactly .ensures)
 
 -- ---- the instruction
 
-code-at-requires : tie.Need-code-at-requires Inv-loop μ-loop
-code-at-requires c κs = let t = turn (c .before) in code-in-file _ _ (entry t .pre) (number t) (inside t)
+halfword-at-requires : tie.Need-halfword-at-requires Inv-loop μ-loop
+halfword-at-requires c κs =
+    let t = placed c in
+    position-inside _ _ (entry t .pre) _ _ (inside t) (t .before .before .loop .inv .1)
 
-halfword-is : (c : tie.After-code-at Inv-loop μ-loop) → c .code-at .result ≡ getD (code (turn (c .before .before))) (number (turn (c .before .before))) 0
-halfword-is c =
-    let t = turn (c .before .before) in
-    c .code-at .ensures ∙ sym (code-halfword (entry t .args .file .now) (number t) (inside t))
+found : (c : tie.After-halfword-at Inv-loop μ-loop) → c .halfword-at .result ≡ getD (code (placed (c .before))) (number (placed (c .before))) 0
+found c =
+    let t = placed (c .before) in
+    halfword-is _ _ (entry t .pre) _ _ (inside t) (t .before .before .loop .inv .1) _ (c .halfword-at .ensures)
+
+first-no-requires : tie.Need-first-no-requires Inv-loop μ-loop
+first-no-requires c κs =
+    let x = c .before .before .before in
+    sym (length-state (x .set-value .last .0)) ∙ ap length (values-are x) ∙ length-values (code (placed x)) (number (placed x))
+
+-- the place before the checks
+abbrev ready : tie.After-first-no Inv-loop μ-loop → tie.After-set-value Inv-loop μ-loop
+ready c = c .before .before .before .before
+
+-- what the checks come to
+checks-are : (c : tie.After-first-no Inv-loop μ-loop) → let t = placed (ready c) in
+    firstNo (checksAt (code t) (layout t .«window_start») (layout t .«window_length») (number t)) ≡ answerAt (address (ready c)) (c .first-no .result)
+checks-are c =
+    let x = ready c in
+    let t = placed x in
+    checked (code t) (layout t .«window_start») (layout t .«window_length») (number t) (c .before .before .before .halfword-at .result) (address x) (state x)
+    (x .before .before .before .before .before .before .byte-address .ensures) (found (c .before .before .before)) (values-are x)
+    (layout t) _ (c .first-no .result) (layout-is _ _ (entry t .pre)) (ap₂ eqb (add-one (number t)) (turns (counted t))) (c .first-no .ensures .0)
 
 returns : tie.Need-returns Inv-loop μ-loop
 returns c =
-    let d = c .before .before .before in
-    let x = d .before .before in
-    let t = turn (x .before) in
-    c .refused .ensures
-    ∙ refusal (code t) (layout t .«window_start») (layout t .«window_length») (number t) _ (inside t) (t .before .before .loop .inv .2)
-    (undefined _ _ _ _ (d .before .code-at .result) (address x) (d .decode .result) (x .before .before .before .before .byte-address .ensures)
-    (halfword-is (d .before)) (d .decode .ensures) (c .before .enum-told .given .1))
-
--- its registers have values in the state
-small-is : (c : tie.After-operands Inv-loop μ-loop) → (c .operands .result .rd < 16) × (c .operands .result .rs < 16)
-small-is c =
-    let d = c .before .before .before .before in
-    let small = registers-small (d .before .code-at .result) _ (sym (d .decode .ensures) ∙ c .before .before .instruction .given .1) in
-    rw (c .operands .ensures) (small .rd, small .rs)
-
-array-copy-out-d : tie.Need-array-copy-out-d Inv-loop μ-loop
-array-copy-out-d c = small-is (c .before .before) .0
-
-array-copy-out-s : tie.Need-array-copy-out-s Inv-loop μ-loop
-array-copy-out-s c = small-is (c .before .before .before) .1
-
--- the places before the checks: the registers, and the state
-abbrev named : tie.After-first-no Inv-loop μ-loop → tie.After-operands Inv-loop μ-loop
-named c = c .before .before .before .before .before .before
-
-abbrev ready : tie.After-first-no Inv-loop μ-loop → tie.After-exactly Inv-loop μ-loop
-ready c = named c .before .before .before .before .before .before
-
--- what the checks come to
-checks-are : (c : tie.After-first-no Inv-loop μ-loop) → let t = turn (ready c .before) in
-    firstNo (checksAt (code t) (layout t .«window_start») (layout t .«window_length») (number t)) ≡ answerAt (address (ready c)) (c .first-no .result)
-checks-are c =
-    let o = named c in
-    let d = o .before .before .before .before in
-    let x = ready c in
-    let t = turn (x .before) in
-    checked (code t) (layout t .«window_start») (layout t .«window_length») (number t) (d .before .code-at .result) (address x) (d .decode .result)
-    (x .before .before .before .before .byte-address .ensures) (halfword-is (d .before)) (d .decode .ensures) _ (state x)
-    (o .before .before .instruction .given .1) (values-are x) (layout t) _ (read (state x) (o .operands .result .rs)) (c .first-no .result)
-    (layout-is _ _ (entry t .pre)) (ap₂ eqb (add-one (number t)) (turns (counted t)))
-    (read-is (state x) (o .operands .result .rs) _ (length-is x) (small-is o .1) (ap (λ (r : Registers). r .rs) (o .operands .ensures)))
-    (c .first-no .ensures)
-
-returns-2 : tie.Need-returns-2 Inv-loop μ-loop
-returns-2 c =
     let f = c .before .before in
-    let t = turn (ready f .before) in
-    c .refused2 .ensures
-    ∙ refusal (code t) (layout t .«window_start») (layout t .«window_length») (number t) _ (inside t) (t .before .before .loop .inv .2)
+    let t = placed (ready f) in
+    c .refused .ensures
+    ∙ refusal (code t) (layout t .«window_start») (layout t .«window_length») (number t) _ (inside t) (t .before .before .loop .inv .3)
     (checks-are f ∙ answer-refused _ _ (c .before .if3 .taken))
 
-array-set-from-state-2 : tie.Need-array-set-from-state-2 Inv-loop μ-loop
-array-set-from-state-2 c = small-is (named (c .before .before)) .0
+position-after-requires : tie.Need-position-after-requires Inv-loop μ-loop
+position-after-requires c κs =
+    let t = placed (ready (c .before)) in
+    position-small _ _ (entry t .pre) _ _ (inside t) (t .before .before .loop .inv .1)
 
 -- ---- the next turn, and the end
 
 loop-again : tie.Need-loop-again Inv-loop μ-loop
 loop-again c =
     let f = c .before .before in
-    let o = named f in
-    let d = o .before .before .before .before in
     let x = ready f in
-    let t = turn (x .before) in
-    let rd = ap (λ (r : Registers). r .rd) (o .operands .ensures) in
-    let rs = ap (λ (r : Registers). r .rs) (o .operands .ensures) in (
+    let t = placed x in
+    let i = t .before .before .loop .inv in (
       search needs,
-      rw add-one (left (code t) (layout t .«window_start») (layout t .«window_length») (number t) (d .before .code-at .result) (address x) (d .decode .result)
-          (x .before .before .before .before .byte-address .ensures) (halfword-is (d .before)) (d .decode .ensures) _ (state x)
-          (o .before .before .instruction .given .1) (values-are x) (o .operands .result .rd) _
-          (read (state x) (o .operands .result .rd)) (read (state x) (o .operands .result .rs)) rd
-          (read-is (state x) (o .operands .result .rd) _ (length-is x) (small-is o .0) rd)
-          (read-is (state x) (o .operands .result .rs) _ (length-is x) (small-is o .1) rs)
-          (c .result .ensures)),
-      rw add-one (next _ _ _ _ (t .before .before .loop .inv .2) ∙ checks-are f ∙ ap (answerAt (address x)) (c .before .if3 .left)),
+      rw add-one (c .position-after .ensures ∙ ap positionAfter (i .1) ∙ position-next _),
+      rw add-one (left (code t) (layout t .«window_start») (layout t .«window_length») (number t) (f .before .before .before .halfword-at .result) (address x) (state x)
+          (x .before .before .before .before .before .before .byte-address .ensures) (found (f .before .before .before)) (values-are x) _ (f .first-no .ensures .1)),
+      rw add-one (next _ _ _ _ (i .3) ∙ checks-are f ∙ ap (answerAt (address x)) (c .before .if3 .left)),
     )
 
-returns-3 : tie.Need-returns-3 Inv-loop μ-loop
-returns-3 c =
-    let start = c .before .before .before .before .before .before .before in
+returns-2 : tie.Need-returns-2 Inv-loop μ-loop
+returns-2 c =
+    let start = c .before .before .before .before .before .before .before .before in
     let whole = codeOf (start .args .file .now) in
-    let n = turns (c .before .before .before .before .before) in
+    let n = turns (c .before .before .before .before .before .before) in
     let e : c .before .before .loop .number ≡ length whole = omega arith in
     ap Fit (layout-is _ _ (start .pre))
-    ∙ fit whole (start .args .layout .«window_start») (start .args .layout .«window_length») (rw e at (c .before .before .loop .inv .2))
+    ∙ fit whole (start .args .layout .«window_start») (start .args .layout .«window_length») (rw e at (c .before .before .loop .inv .3))
 
 pub walk-spec : {M : Type 1} → statement M
 walk-spec =
@@ -215,32 +194,19 @@ walk-spec =
     (λ c κs. search needs)
     (λ c κs. search needs)
     (λ c κs. search needs)
+    (λ c κs. search needs)
     loop-holds
     (λ c κs. search needs)
     is-marked-requires
     (λ c κs. search needs)
-    (λ c. search needs)
-    code-at-requires
     (λ c κs. search needs)
+    halfword-at-requires
     (λ c. search needs)
-    (λ c. search needs)
+    first-no-requires
     (λ c κs. search needs)
     returns
-    (λ c κs. search needs)
-    (λ c. search needs)
-    (λ c. search needs)
-    (λ c. search needs)
-    array-copy-out-d
-    (λ c. search needs)
-    array-copy-out-s
-    (λ c. search needs)
-    (λ c κs. search needs)
-    (λ c κs. search needs)
-    returns-2
-    (λ c κs. search needs)
-    (λ c. search needs)
-    array-set-from-state-2
+    position-after-requires
     (λ c. search needs)
     (λ c. search needs)
     loop-again
-    returns-3)
+    returns-2)

@@ -1,0 +1,19 @@
+-- With the two bits above it 0, one bit picks the format.
+use native.Mathlib.Omega.{arith}
+use mathlib.Core.Path.{_≡_, _∙_}
+use Rattle.isa.specs.Field.{field}
+use Rattle.isa.specs.Decode.{aluOf, highOf, registersOf}
+use Rattle.cpu.proofs.Formats.{leads-as, one-bit}
+use borrow.Author.Needs.{needs}
+use Rattle.cpu.proofs.executor.execute_registers.Statement.{statement}
+use Rattle.cpu.proofs.executor.execute_registers.Tie as tie
+
+pub execute-registers-spec : {M : Type 1} → statement M
+execute-registers-spec =
+    tie.close
+    (tie.spec
+    (λ c κs. search needs)
+    (λ c κs. search needs)
+    (λ c κs. search needs)
+    (λ c. λ memory. let f : field (c .before .before .before .before .args .h) 10 1 ≡ 0 = omega (arith, c .before .before .before .bits .ensures, c .before .before .if1 .taken) in let e : field (c .before .before .before .before .args .h) 10 3 ≡ 0 = one-bit (c .before .before .before .before .args .h) (c .before .before .before .before .pre .1) ∙ f in leads-as (registersOf (c .before .before .before .before .args .h)) (aluOf (c .before .before .before .before .args .h)) _ memory memory _ _ (simp e) (c .execute-alu .ensures memory))
+    (λ c. λ memory. let f : field (c .before .before .before .before .args .h) 10 1 ≡ 1 = omega (arith, c .before .before .before .bits .ensures, c .before .before .if1 .left) in let e : field (c .before .before .before .before .args .h) 10 3 ≡ 1 = one-bit (c .before .before .before .before .args .h) (c .before .before .before .before .pre .1) ∙ f in leads-as (registersOf (c .before .before .before .before .args .h)) (highOf (c .before .before .before .before .args .h)) _ memory memory _ _ (simp e) (c .execute-high .ensures memory)))

@@ -1,0 +1,16 @@
+-- H1, moved to bit 3, shares no bit with the three bits of Rd.
+use native.Mathlib.Omega.{arith}
+use mathlib.Core.Path.{_≡_, refl, sym, ap, _∙_}
+use Prim.Native.Nat.{ℕ, _+_, _-_, _*_, _/_, _%_, _^_, _<_, _≤_, max}
+use Rattle.isa.proofs.Or.{low, top}
+use borrow.Author.Needs.{needs}
+use Rattle.isa.proofs.fields.high_rd.Statement.{statement}
+use Rattle.isa.proofs.fields.high_rd.Tie as tie
+
+pub high-rd-spec : {M : Type 1} → statement M
+high-rd-spec =
+    tie.close
+    (tie.spec
+    (λ c κs. search needs)
+    (λ c κs. search needs)
+    (λ c. omega (arith, low 3 {x = c .before .bits .result * 8 % 256} (c .bits2 .result) refl (omega arith) (omega arith))))

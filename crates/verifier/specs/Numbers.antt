@@ -1,0 +1,23 @@
+-- The checks of a halfword as a number: that of the first of checks 9 to 13 which fails, or 0.
+use mathlib.Core.Bool.{Bool, cond}
+use Prim.Native.Nat.{ℕ}
+use Rattle.isa.specs.declared.address.ByteAddress.{ByteAddress}
+use Rattle.isa.specs.declared.decoder.Decoded.{Decoded}
+use Rattle.isa.specs.declared.decoder.Decoded.the-variants.{Defined, Undefined}
+use Rattle.image.specs.declared.checker.Layout.{Layout}
+use Rattle.verifier.specs.Access.{accessOf}
+use Rattle.verifier.specs.State.{State, value}
+use Rattle.verifier.specs.Questions.{check10, check11, check12, check13}
+
+-- of an instruction, whose checks come out so
+abbrev pub firstOf : Bool → Bool → Bool → Bool → ℕ
+firstOf t10 t11 t12 t13 = cond t10 (cond t11 (cond t12 (cond t13 0 13) 12) 11) 10
+
+-- of the halfword at an address, decoded as given, in a state
+abbrev pub numberOf : State → Layout → ByteAddress → Decoded → ℕ
+numberOf s layout a Undefined = 9
+numberOf s layout a (Defined i) =
+    firstOf (check10 (value s (accessOf i .base)) (layout .«window_start») (layout .«window_length») (accessOf i))
+    (check11 (value s (accessOf i .base)) (accessOf i))
+    (check12 i)
+    (check13 (layout .«code_bytes») a i)

@@ -1,0 +1,38 @@
+// The code of a file by the byte in the file where each halfword stands: a walk
+// goes from one to the next without a division.
+ghost use mathlib.Core.Path.{_≡_};
+ghost use Prim.Native.Nat.{_+_, _≤_, _<_};
+ghost use lib.ListN.{length};
+ghost use Rattle.image.specs.Block.{halfwordAt};
+ghost use Rattle.verifier.specs.Position.{positionAfter};
+
+// Where the first halfword stands, behind the header of block 0.
+pub const FIRST_POSITION: usize = 12;
+
+// A block's length, and where in a block its last code halfword stands. The
+// block's sum and the next block's header lie between that and the next one.
+const BLOCK_BYTES: usize = 512;
+
+const LAST_IN_BLOCK: usize = 508;
+
+const GAP: usize = 16;
+
+// The halfword at byte `p`, low byte first.
+pub(crate) fn halfword_at(file: &[u8], p: usize) -> u16
+    requires { ⌜ p + 2 ≤ length (now file) ⌝ }
+    ensures { λ r. ⌜ r ≡ halfwordAt (now (file .entry)) p ⌝ }
+{
+    (file[p] as u16) + 256 * (file[p + 1] as u16)
+}
+
+// Where the code halfword after the one at byte `p` stands.
+pub(crate) fn position_after(p: usize) -> usize
+    requires { ⌜ p < 65536 ⌝ }
+    ensures { λ r. ⌜ r ≡ positionAfter p ⌝ }
+{
+    if p % BLOCK_BYTES == LAST_IN_BLOCK {
+        p + GAP
+    } else {
+        p + 2
+    }
+}
