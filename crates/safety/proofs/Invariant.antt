@@ -1,81 +1,39 @@
 -- What stays true from step to step of a run of fit code.
-use mathlib.Core.Bool.{Bool, true, false, cond, false≢true}
+use mathlib.Core.Bool.{true, false, false≢true}
 use mathlib.Core.List.{List}
 use mathlib.Core.Logic.{_⊎_, inl, inr, ⊎-elim}
-use mathlib.Core.Path.{_≡_, refl, sym, ap, _∙_, subst}
-use Prim.Native.Nat.{ℕ, zero, suc, _+_, _*_, _/_, _%_, _≤_, _<_}
+use mathlib.Core.Path.{_≡_, refl, sym, ap, _∙_}
+use Prim.Native.Nat.{ℕ, suc, _+_, _*_, _/_, _%_, _<_}
 use native.Mathlib.Decide.{ℕ-discrete}
 use native.Mathlib.Omega.{arith}
 use borrow.Author.Tests.{eq-eqb, ltb-true, eqb-true}
-use lib.Dec.{eqb, ltb}
-use lib.ListN.{length, getD, set, length-set}
-use Rattle.isa.specs.Address.{wrap, branchTargetOf}
+use lib.ListN.{length, getD}
+use Rattle.isa.specs.Address.{wrap}
 use Rattle.isa.specs.Decode.{decodeOf}
 use Rattle.isa.specs.declared.address.ByteAddress.{ByteAddress}
 use Rattle.isa.specs.declared.decoder.Decoded.{Decoded}
-use Rattle.isa.specs.declared.decoder.Decoded.the-variants.{Defined, Undefined}
+use Rattle.isa.specs.declared.decoder.Decoded.the-variants.{Defined}
 use Rattle.isa.specs.declared.instruction.Instruction.{Instruction}
-use Rattle.isa.specs.declared.instruction.Instruction.the-variants.{MovImm, CmpImm, And, Eor, Asr, Tst, Neg, Cmp, AddHigh, CmpHigh, MovHigh, Str, Ldr, Strb, Ldrb, AddPc, Branch, Halt}
-use Rattle.domain.specs.Value.{exactlyOf}
+use Rattle.isa.specs.declared.instruction.Instruction.the-variants.{Halt}
 use Rattle.image.specs.declared.checker.Layout.{Layout}
 use Rattle.verifier.specs.Access.{accessOf, jumpOf}
-use Rattle.verifier.specs.Questions.{staysBelow, check13, check14}
-use Rattle.verifier.specs.State as abstract
-use Rattle.verifier.specs.State.{unknownState, standingAt, transferOf, afterOf}
-use Rattle.verifier.specs.Targets.{addressOf, decodedAt, jumpAt, landsOn, goesTo, targeted}
-use Rattle.verifier.specs.Verify.{arriving, entering, valuesAt}
+use Rattle.verifier.specs.State.{transferOf, afterOf}
+use Rattle.verifier.specs.Targets.{addressOf, decodedAt, goesTo, targeted}
+use Rattle.verifier.specs.Verify.{entering, valuesAt}
 use Rattle.verifier.specs.declared.branch.Target.the-variants.{To}
 use Rattle.cpu.specs.declared.machine.Machine.{Machine}
 use Rattle.cpu.specs.declared.stepper.Outcome.the-variants.{Completed, Halted}
-use Rattle.cpu.specs.Machine.{reg, pc}
-use Rattle.cpu.specs.Memory.{memorySize, byteAt, halfwordAt}
-use Rattle.cpu.specs.Step.{State, StepResult, executeOf, executeDecoded, fetched, fetchAndExecute, stepOf}
+use Rattle.cpu.specs.Machine.{pc}
+use Rattle.cpu.specs.Memory.{byteAt, halfwordAt}
+use Rattle.cpu.specs.Step.{State, executeOf, fetched, fetchAndExecute, stepOf}
 use Rattle.safety.specs.Safety.{InWindow, SafeAccess}
 use Rattle.safety.proofs.Registers.{Sized, HoldsBelow, Moved, standing-holds}
 use Rattle.isa_laws.proofs.Narrow.{Narrow, decoded-narrow}
 use Rattle.safety.proofs.Steps.{Completes, step-case}
 use Rattle.safety.proofs.Accesses.{access-safe}
-use Rattle.safety.proofs.Memories.{Kept, step-kept}
-use Rattle.verifier_laws.specs.Passes.{Passes}
+use Rattle.safety.proofs.Memories.{step-kept}
+use Rattle.verifier.proofs.Walk.{length-entering, length-values}
 use Rattle.safety.proofs.Fitness.{FitCode}
-
--- ---- the abstract states have sixteen values
-
-transfer-long : (a : ℕ) (i : Instruction) (s : abstract.State) → length (transferOf a i s) ≡ length s
-transfer-long a (MovImm rd imm) s = length-set s rd _
-transfer-long a (CmpImm rd imm) s = refl
-transfer-long a (And rs rd) s = length-set s rd _
-transfer-long a (Eor rs rd) s = length-set s rd _
-transfer-long a (Asr rs rd) s = length-set s rd _
-transfer-long a (Tst rs rd) s = refl
-transfer-long a (Neg rs rd) s = length-set s rd _
-transfer-long a (Cmp rs rd) s = refl
-transfer-long a (AddHigh rs rd) s = length-set s rd _
-transfer-long a (CmpHigh rs rd) s = refl
-transfer-long a (MovHigh rs rd) s = length-set s rd _
-transfer-long a (Str offset rb rd) s = refl
-transfer-long a (Ldr offset rb rd) s = length-set s rd _
-transfer-long a (Strb offset rb rd) s = refl
-transfer-long a (Ldrb offset rb rd) s = length-set s rd _
-transfer-long a (AddPc rd imm) s = length-set s rd _
-transfer-long a (Branch condition offset) s = refl
-transfer-long a Halt s = refl
-
-after-long : (a : ℕ) (d : Decoded) (s : abstract.State) → length (afterOf a d s) ≡ length s
-after-long a (Defined i) s = transfer-long a i s
-after-long a Undefined s = refl
-
-arriving-long : (code : List ℕ) (i : ℕ) (s : abstract.State) → length s ≡ 16 → length (arriving code i s) ≡ 16
-arriving-long code i s h = length-set (cond (targeted code i) unknownState s) 15 (exactlyOf (addressOf i .0)) ∙ go (targeted code i)
-  where
-    go : (t : Bool) → length (cond t unknownState s) ≡ 16
-    go true = refl
-    go false = h
-
-entering-long : (code : List ℕ) (i : ℕ) → length (entering code i) ≡ 16
-unfolding entering
-entering-long code zero = refl
-entering-long code (suc i) = after-long (addressOf i .0) (decodedAt code i) (valuesAt code i) ∙ arriving-long code i (entering code i) (entering-long code i)
 
 -- ---- the invariant, of a code and layout, and of the memory at the start
 
@@ -101,7 +59,7 @@ module _ (code : List ℕ) (layout : Layout) (start : List ℕ) (fit : FitCode c
   pub arrive : (i : ℕ) (regs : List ℕ) → i < length code → getD regs 15 0 ≡ 2 * i → Sized regs
       → (targeted code i ≡ false → HoldsBelow 15 (entering code i) regs) → HoldsBelow 16 (valuesAt code i) regs
   arrive i regs h e sized holds =
-      standing-holds (addressOf i .0) (targeted code i) (entering code i) regs (omega arith) (e ∙ sym (address-is i h)) (entering-long code i) sized holds
+      standing-holds (addressOf i .0) (targeted code i) (entering code i) regs (omega arith) (e ∙ sym (address-is i h)) (length-entering code i) sized holds
 
   module _ (s : State) (inv : Inv code layout start s) where
     abbrev m : Machine
@@ -205,7 +163,7 @@ module _ (code : List ℕ) (layout : Layout) (start : List ℕ) (fit : FitCode c
     next =
         rw step-is
         (⊎-elim (λ e. inl (rw e (refl, refl))) (λ c. inr (c .outcome, ⊎-elim (λ moved. fell (running c) moved) (λ j. branched (j .0) (j .1) (j .2 even) (j .3)) (c .moved)))
-        (step-case (valuesAt code i) m (s .memory) (arriving-long code i (entering code i) (entering-long code i)) (inv .sized) (inv .holds) (inv .bytes) ins narrow
+        (step-case (valuesAt code i) m (s .memory) (length-values code i) (inv .sized) (inv .holds) (inv .bytes) ins narrow
         (fit .passed (inv .index) (inv .inside) .passes12) (safe-access .aligned)))
       where
         running : Completes (valuesAt code (inv .index)) (fit .passed (inv .index) (inv .inside) .instruction) (s .machine) (executeOf (fit .passed (inv .index) (inv .inside) .instruction) (s .machine) (s .memory))

@@ -79,7 +79,7 @@ length-arriving : (address : ℕ) (t : Bool) (s : State) → length s ≡ 16 →
 length-arriving address true s e = refl
 length-arriving address false s e = length-set s 15 _ ∙ e
 
-length-entering : (code : List ℕ) (n : ℕ) → length (entering code n) ≡ 16
+pub length-entering : (code : List ℕ) (n : ℕ) → length (entering code n) ≡ 16
 unfolding entering
 length-entering code zero = refl
 length-entering code (suc n) =
