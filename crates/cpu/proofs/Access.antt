@@ -1,14 +1,10 @@
 -- Loads and stores, and how any instruction ends: what their parts put together.
 use Prim.Native.Nat.{ℕ, _+_, _*_, _%_, _<_}
 use mathlib.Core.List.{List}
-use mathlib.Core.Path.{_≡_, refl, sym, _∙_}
+use mathlib.Core.Path.{_≡_, refl}
 use lib.ListN.{getD, set}
 use borrow.Author.Tests.{eq-eqb, ne-eqb}
 use Rattle.isa.specs.Address.{wrap}
-use Rattle.isa.specs.declared.decoder.Decoded.{Decoded}
-use Rattle.isa.specs.declared.decoder.Decoded.the-variants.{Defined, Undefined}
-use Rattle.isa.specs.declared.instruction.Instruction.{Instruction}
-use Rattle.cpu.specs.declared.status.Status.{Status}
 use Rattle.cpu.specs.declared.held.Control.{Control}
 use Rattle.cpu.specs.declared.held.Executed.{Executed}
 use Rattle.cpu.specs.declared.machine.Machine.{Machine}
@@ -16,7 +12,7 @@ use Rattle.cpu.specs.declared.stepper.Outcome.{Outcome}
 use Rattle.cpu.specs.declared.stepper.Outcome.the-variants.{Completed, Stopped}
 use Rattle.cpu.specs.Machine.{machine, advanced, written}
 use Rattle.cpu.specs.Memory.{halfwordAt, withByte, withHalfword}
-use Rattle.cpu.specs.Step.{stepResult, ldrOf, strOf, strbOf, executeOf, executeDecoded}
+use Rattle.cpu.specs.Step.{stepResult, ldrOf, strOf, strbOf}
 use Rattle.cpu.specs.Held.{statusIn, flagsIn, held, control, Whole, Holds, Leads}
 use Rattle.cpu.proofs.Ends.{low-is, advance-holds}
 
@@ -33,11 +29,6 @@ leads regs memory e k outcome m gave holds = record { result = rw (gave .0, gave
 pub stays : (regs memory : List ℕ) (e : Executed) (k : Control) (outcome : Outcome) → Gave e k outcome → Whole regs
     → Leads regs e memory (stepResult (held regs k) memory outcome)
 stays regs memory e k outcome gave whole = leads regs memory e k outcome (held regs k) gave (record { machine = refl; whole = whole })
-
--- a halfword whose meaning is known
-pub leads-as : (d known : Decoded) (regs memory′ memory : List ℕ) (e : Executed) (m : Machine) → d ≡ known
-    → Leads regs e memory′ (executeDecoded known m memory) → Leads regs e memory′ (executeDecoded d m memory)
-leads-as d known regs memory′ memory e m is done = rw is done
 
 module _ (regs memory : List ℕ) (k : Control) (offset rb rd a : ℕ) (e : Executed) (whole : Whole regs) (low-base : rb < 8) where
   module _ (address : a ≡ wrap (getD regs rb 0 + 4 * offset)) where

@@ -1,4 +1,5 @@
--- The checks of a halfword as a number: that of the first of checks 9 to 13 which fails, or 0.
+-- The checks of a halfword as a number: that of the first of checks 9 to 13 which fails, or 0. Only the contracts of
+-- private functions speak of it.
 use mathlib.Core.Bool.{Bool, cond}
 use Prim.Native.Nat.{ℕ}
 use Rattle.isa.specs.declared.address.ByteAddress.{ByteAddress}

@@ -1,4 +1,4 @@
--- Where the code halfwords of a file stand, one after the other ("Image blocks").
+-- Where the code halfwords of a file stand, one after the other ("Image blocks"). Only the contracts of private functions speak of it.
 use mathlib.Core.Bool.{cond}
 use Prim.Native.Nat.{ℕ, _+_, _-_, _%_}
 use lib.Dec.{eqb}

@@ -1,4 +1,4 @@
--- The abstract state in words, as the code holds it.
+-- The abstract state in words, as the code holds it. Only the contracts of private functions speak of it.
 use mathlib.Core.List.{List, [], _∷_}
 use Prim.Native.Nat.{ℕ, _/_, _%_}
 use Rattle.domain.specs.declared.value.Value.{Value}
