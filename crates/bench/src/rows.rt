@@ -22,7 +22,7 @@ pub(crate) fn print_shift() {
         c: false,
         v: false,
     };
-    let out = cpu::step_value(start, &mut memory);
+    let out = stepper::step_value(start, &mut memory);
     let m = out.machine;
     print(b"ASR of 0x4000 by 15: ");
     print_number(m.regs[0] as u64);

@@ -6,7 +6,7 @@ use borrow.Author.Tests.{eq-eqb, ne-eqb}
 use Rattle.isa.specs.Decode.{decodeOf}
 use Rattle.cpu.specs.declared.held.Control.{Control}
 use Rattle.cpu.specs.declared.held.Executed.{Executed}
-use Rattle.cpu.specs.declared.stepper.Outcome.the-variants.{Stopped}
+use Rattle.cpu.specs.declared.outcome.Outcome.the-variants.{Stopped}
 use Rattle.cpu.specs.Memory.{halfwordAt}
 use Rattle.cpu.specs.Step.{executeDecoded, fetched, fetchAndExecute}
 use Rattle.cpu.specs.Held.{held, Whole, Leads}

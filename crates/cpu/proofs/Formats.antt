@@ -18,7 +18,7 @@ use Rattle.isa.proofs.Table.{entry-past}
 use Rattle.cpu.specs.declared.held.Control.{Control}
 use Rattle.cpu.specs.declared.held.Executed.{Executed}
 use Rattle.cpu.specs.declared.machine.Machine.{Machine}
-use Rattle.cpu.specs.declared.stepper.Outcome.the-variants.{Completed, Halted, Stopped}
+use Rattle.cpu.specs.declared.outcome.Outcome.the-variants.{Completed, Halted, Stopped}
 use Rattle.cpu.specs.Alu.{conditionOf}
 use Rattle.cpu.specs.Step.{stepResult, branchOf as branchStep, executeOf, executeDecoded}
 use Rattle.cpu.specs.Held.{statusIn, flagsIn, held, control, branched, Whole, Holds, Leads, Above, Beside}

@@ -1,10 +1,8 @@
 -- A run's turns: what is left of it at each is what was to be done at the start.
 use Prim.Native.Nat.{ℕ, suc, _+_, _-_, _<_, _≤_}
 use native.Mathlib.Omega.{arith}
-use mathlib.Core.Bool.{Bool, true, false}
 use mathlib.Core.List.{List}
-use mathlib.Core.Path.{_≡_, refl, sym, ap, _∙_}
-use lib.Dec.{eqb}
+use mathlib.Core.Path.{_≡_, sym, ap, _∙_}
 use lib.ListN.{length}
 use borrow.Author.Tests.{eq-eqb, ne-eqb}
 use Rattle.isa.specs.Refusal.{refusal}
@@ -15,12 +13,11 @@ use Rattle.cpu.specs.declared.machine.Machine.{Machine}
 use Rattle.cpu.specs.declared.runner.Ran.{Ran}
 use Rattle.cpu.specs.declared.runner.RunOutcome.{RunOutcome}
 use Rattle.cpu.specs.declared.runner.RunOutcome.the-variants.{Spent, Refused as RunRefused}
-use Rattle.cpu.specs.declared.stepper.Outcome.{Outcome}
-use Rattle.cpu.specs.declared.stepper.Outcome.the-variants.{Completed, Halted, Stopped, Refused}
+use Rattle.cpu.specs.declared.outcome.Outcome.the-variants.{Completed}
 use Rattle.cpu.specs.Memory.{memorySize}
 use Rattle.cpu.specs.Step.{State, StepResult, stepResult, fetchAndExecute, stepOf}
 use Rattle.cpu.specs.Run.{RunResult, runResult, goOn, runFrom, runOf}
-use Rattle.cpu.specs.Held.{held, asStep, Leads}
+use Rattle.cpu.specs.Held.{held, Leads}
 
 abbrev pub state : Machine → List ℕ → State
 state m memory = record { machine = m; memory = memory }
@@ -91,29 +88,3 @@ run-again budget regs memory regs′ memory′ k count e all more right leads co
     let next = stepResult (held regs′ (e .control)) memory′ (e .outcome) in
     (rw completed at (sym (turn (budget - (count + 1)) count (state (held regs k) memory) next (one-step regs memory regs′ memory′ k e right leads))))
     ∙ (rw t at left)
-
--- a run of one step, as a step
-abbrev asStepResult : RunResult → StepResult
-asStepResult r = stepResult (r .state .machine) (r .state .memory) (asStep (r .outcome))
-
-after-one : (o : Outcome) (s : State) → asStepResult (goOn o s 0 (record { state = s; outcome = Spent; count = 1 })) ≡ record { state = s; outcome = o }
-after-one Completed s = refl
-after-one Halted s = refl
-after-one (Stopped number) s = refl
-after-one (Refused r) s = refl
-
-wrong : (m : Machine) (memory : List ℕ) → eqb (length memory) memorySize ≡ false → stepResult m memory (Refused (refusal 1)) ≡ stepOf m memory
-unfolding stepOf
-wrong m memory e = simp e
-
-one-is-step : (m : Machine) (memory : List ℕ) → asStepResult (runOf 1 m memory) ≡ stepOf m memory
-unfolding runOf runFrom
-one-is-step m memory = go (eqb (length memory) memorySize) refl
-  where
-    go : (t : Bool) → eqb (length memory) memorySize ≡ t → asStepResult (runOf 1 m memory) ≡ stepOf m memory
-    go true e = simp e (after-one (stepOf m memory .outcome) (stepOf m memory .state))
-    go false e = simp e (wrong m memory e)
-
-pub stepped : (m m′ : Machine) (memory memory′ : List ℕ) (outcome : RunOutcome) (count : ℕ)
-    → runResult m′ memory′ outcome count ≡ runOf 1 m memory → stepResult m′ memory′ (asStep outcome) ≡ stepOf m memory
-stepped m m′ memory memory′ outcome count ran = ap asStepResult ran ∙ one-is-step m memory

@@ -12,10 +12,6 @@ use Rattle.cpu.specs.declared.machine.Machine.{Machine}
 use Rattle.cpu.specs.declared.status.Status.{Status}
 use Rattle.cpu.specs.declared.held.Control.{Control}
 use Rattle.cpu.specs.declared.held.Executed.{Executed}
-use Rattle.cpu.specs.declared.stepper.Outcome.{Outcome}
-use Rattle.cpu.specs.declared.stepper.Outcome.the-variants.{Completed, Halted, Stopped, Refused}
-use Rattle.cpu.specs.declared.runner.RunOutcome.{RunOutcome}
-use Rattle.cpu.specs.declared.runner.RunOutcome.the-variants as ended
 use Rattle.cpu.specs.Machine.{Flags, machine}
 use Rattle.cpu.specs.Alu.{negative, conditionOf}
 use Rattle.cpu.specs.Step.{StepResult, stepResult, executeDecoded}
@@ -88,10 +84,3 @@ branched condition offset k =
     control
     (cond (conditionOf condition (flagsIn (statusIn k))) (branchTargetOf (record { 0 = k .pc }) offset .0) (wrap (k .pc + 2)))
     (statusIn k)
-
--- how a run of one step ended, as a step's end
-abbrev pub asStep : RunOutcome → Outcome
-asStep ended.Spent = Completed
-asStep ended.Halted = Halted
-asStep (ended.Stopped number) = Stopped number
-asStep (ended.Refused r) = Refused r

@@ -8,7 +8,7 @@ use super::held::completed;
 use super::held::stopped;
 use super::instructions;
 use super::memory::load_halfword;
-use super::stepper::Outcome;
+use super::outcome::Outcome;
 use isa::bits;
 use isa::high_rd;
 use isa::high_rs;

@@ -2,11 +2,11 @@
 // flags and the PC by value beside it. What the array has at 15 doesn't count;
 // an instruction that may name R15 first puts the PC there.
 use super::machine::Machine;
+use super::outcome::Outcome;
 use super::status::Status;
 use super::status::is_negative;
 use super::status::is_zero;
 use super::status::result_of;
-use super::stepper::Outcome;
 ghost use mathlib.Core.Path.{_≡_};
 ghost use Prim.Native.Nat.{_+_, _<_};
 ghost use lib.ListN.{set};

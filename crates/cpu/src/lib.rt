@@ -1,4 +1,5 @@
-// The PAW processor: its machine, one step of it, and a run with a budget.
+// The PAW processor: its machine, what each instruction does to it, and a run with
+// a budget.
 // Memory is the caller's, 65,536 bytes; code may read, write and execute any
 // of them.
 mod alu;
@@ -7,15 +8,12 @@ mod held;
 mod instructions;
 mod machine;
 mod memory;
+mod outcome;
 mod runner;
 mod status;
-mod stepper;
 
 pub use machine::Machine;
+pub use outcome::Outcome;
 pub use runner::Ran;
 pub use runner::RunOutcome;
 pub use runner::run;
-pub use stepper::Outcome;
-pub use stepper::Stepped;
-pub use stepper::step;
-pub use stepper::step_value;

@@ -10,8 +10,8 @@ use borrow.Author.Tests.{eq-eqb}
 use lib.ListN.{length}
 use Rattle.isa.specs.declared.refusal.Refusal.{Refusal}
 use Rattle.cpu.specs.declared.machine.Machine.{Machine}
-use Rattle.cpu.specs.declared.stepper.Outcome.{Outcome}
-use Rattle.cpu.specs.declared.stepper.Outcome.the-variants.{Completed, Halted, Stopped, Refused}
+use Rattle.cpu.specs.declared.outcome.Outcome.{Outcome}
+use Rattle.cpu.specs.declared.outcome.Outcome.the-variants.{Completed, Halted, Stopped, Refused}
 use Rattle.cpu.specs.declared.runner.RunOutcome.{RunOutcome}
 use Rattle.cpu.specs.declared.runner.RunOutcome.the-variants as run
 use Rattle.cpu.specs.Memory.{memorySize}

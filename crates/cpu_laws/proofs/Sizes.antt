@@ -15,7 +15,7 @@ use Rattle.isa.specs.declared.decoder.Decoded.the-variants.{Defined, Undefined}
 use Rattle.isa.specs.declared.instruction.Instruction.{Instruction}
 use Rattle.isa.specs.declared.instruction.Instruction.the-variants.{MovImm, CmpImm, And, Eor, Asr, Tst, Neg, Cmp, AddHigh, CmpHigh, MovHigh, Str, Ldr, Strb, Ldrb, AddPc, Branch, Halt}
 use Rattle.cpu.specs.declared.machine.Machine.{Machine}
-use Rattle.cpu.specs.declared.stepper.Outcome.the-variants.{Refused}
+use Rattle.cpu.specs.declared.outcome.Outcome.the-variants.{Refused}
 use Rattle.cpu.specs.Machine.{reg, pc, flags, machine, advanced, written}
 use Rattle.cpu.specs.Memory.{memorySize, byteAt, halfwordAt, withByte, withHalfword}
 use Rattle.cpu.specs.Alu.{negative, shiftedOf, shiftOf, conditionOf}

@@ -12,7 +12,7 @@ use Rattle.isa.specs.declared.decoder.Decoded.the-variants.{Defined, Undefined}
 use Rattle.isa.specs.declared.instruction.Instruction.{Instruction}
 use Rattle.isa.specs.declared.instruction.Instruction.the-variants.{MovImm, CmpImm, And, Eor, Asr, Tst, Neg, Cmp, AddHigh, CmpHigh, MovHigh, Str, Ldr, Strb, Ldrb, AddPc, Branch, Halt}
 use Rattle.cpu.specs.declared.machine.Machine.{Machine}
-use Rattle.cpu.specs.declared.stepper.Outcome.the-variants.{Completed, Refused}
+use Rattle.cpu.specs.declared.outcome.Outcome.the-variants.{Completed, Refused}
 use Rattle.cpu.specs.Machine.{pc, flags, machine, advanced, written, reg}
 use Rattle.cpu.specs.Memory.{memorySize, halfwordAt, withHalfword}
 use Rattle.cpu.specs.Step.{State, StepResult, stepResult, completed, stopped, effectiveAddress, aligned, ldrOf, strOf, strbOf, executeOf, executeDecoded, fetched, fetchAndExecute, stepOf}

@@ -4,8 +4,8 @@ use Prim.Native.Nat.{ℕ, _+_, _*_}
 use Rattle.cpu.specs.Step.{State, StepResult}
 use Rattle.cpu.specs.Run.{RunResult}
 use Rattle.cpu.specs.declared.machine.Machine.{Machine}
-use Rattle.cpu.specs.declared.stepper.Outcome.{Outcome}
-use Rattle.cpu.specs.declared.stepper.Outcome.the-variants.{Completed, Halted, Stopped, Refused}
+use Rattle.cpu.specs.declared.outcome.Outcome.{Outcome}
+use Rattle.cpu.specs.declared.outcome.Outcome.the-variants.{Completed, Halted, Stopped, Refused}
 use Rattle.cpu.specs.declared.runner.RunOutcome.{RunOutcome}
 use Rattle.cpu.specs.declared.runner.RunOutcome.the-variants as run
 

@@ -46,7 +46,7 @@ fn run_number(o: RunOutcome) -> u64
 fn step_numbered(m: Machine, memory: &mut [u8]) -> AfterStep
     ensures { λ r. ⌜ numbered (r .machine) (now (memory .exit)) (r .number) ≡ numberedStep (stepOf m (now (memory .entry))) ⌝ }
 {
-    let out = cpu::step_value(m, memory);
+    let out = stepper::step_value(m, memory);
     let machine = out.machine;
     let outcome = out.outcome;
     let number = outcome_number(outcome);

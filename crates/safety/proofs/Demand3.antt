@@ -17,8 +17,8 @@ use Rattle.domain_laws.proofs.Sound.{unknown-sound}
 use Rattle.verifier.specs.Verify.{verifyOf, entering}
 use Rattle.verifier.specs.declared.verifier.Verdict.the-variants.{Fit}
 use Rattle.cpu.specs.declared.machine.Machine.{Machine}
-use Rattle.cpu.specs.declared.stepper.Outcome.{Outcome}
-use Rattle.cpu.specs.declared.stepper.Outcome.the-variants.{Completed, Halted}
+use Rattle.cpu.specs.declared.outcome.Outcome.{Outcome}
+use Rattle.cpu.specs.declared.outcome.Outcome.the-variants.{Completed, Halted}
 use Rattle.cpu.specs.declared.runner.RunOutcome.{RunOutcome}
 use Rattle.cpu.specs.declared.runner.RunOutcome.the-variants as run
 use Rattle.cpu.specs.Machine.{reg, pc}

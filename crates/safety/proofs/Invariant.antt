@@ -22,7 +22,7 @@ use Rattle.verifier.specs.Targets.{addressOf, decodedAt, goesTo, targeted}
 use Rattle.verifier.specs.Verify.{entering, valuesAt}
 use Rattle.verifier.specs.declared.branch.Target.the-variants.{To}
 use Rattle.cpu.specs.declared.machine.Machine.{Machine}
-use Rattle.cpu.specs.declared.stepper.Outcome.the-variants.{Completed, Halted}
+use Rattle.cpu.specs.declared.outcome.Outcome.the-variants.{Completed, Halted}
 use Rattle.cpu.specs.Machine.{pc}
 use Rattle.cpu.specs.Memory.{byteAt, halfwordAt}
 use Rattle.cpu.specs.Step.{State, executeOf, fetched, fetchAndExecute, stepOf}

@@ -14,7 +14,7 @@ use Rattle.isa.specs.declared.instruction.Instruction.the-variants.{MovImm, Cmp
 use Rattle.image.specs.declared.checker.Layout.{Layout}
 use Rattle.verifier.specs.Access.{accessOf}
 use Rattle.cpu.specs.declared.machine.Machine.{Machine}
-use Rattle.cpu.specs.declared.stepper.Outcome.{Outcome}
+use Rattle.cpu.specs.declared.outcome.Outcome.{Outcome}
 use Rattle.cpu.specs.Machine.{reg, flags, machine, written}
 use Rattle.cpu.specs.Memory.{byteAt, halfwordAt, withByte, withHalfword}
 use Rattle.cpu.specs.Step.{StepResult, stepResult, completed, effectiveAddress, executeOf, ldrOf, ldrbOf, strOf, strbOf}

@@ -24,7 +24,7 @@ use Rattle.verifier.specs.State.{State, value, transferOf, pcSum}
 use Rattle.verifier.specs.declared.branch.Target.the-variants.{To}
 use Rattle.cpu.specs.declared.machine.Machine.{Machine}
 use Rattle.cpu.specs.Machine.{Flags}
-use Rattle.cpu.specs.declared.stepper.Outcome.the-variants.{Completed, Halted}
+use Rattle.cpu.specs.declared.outcome.Outcome.the-variants.{Completed, Halted}
 use Rattle.cpu.specs.Machine.{reg, pc, flags, machine, advanced, written}
 use Rattle.cpu.specs.Memory.{byteAt, halfwordAt}
 use Rattle.cpu.specs.Alu.{negative, shiftOf, shiftedOf, conditionOf}

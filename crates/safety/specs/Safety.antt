@@ -11,7 +11,7 @@ use Rattle.verifier.specs.Access.{Access, accessOf}
 use Rattle.verifier.specs.Verify.{verifyOf}
 use Rattle.verifier.specs.declared.verifier.Verdict.the-variants.{Fit}
 use Rattle.cpu.specs.declared.machine.Machine.{Machine}
-use Rattle.cpu.specs.declared.stepper.Outcome.the-variants as step
+use Rattle.cpu.specs.declared.outcome.Outcome.the-variants as step
 use Rattle.cpu.specs.declared.runner.RunOutcome.the-variants as run
 use Rattle.cpu.specs.Machine.{reg, pc}
 use Rattle.cpu.specs.Memory.{memorySize, byteAt}

@@ -1,8 +1,8 @@
 -- A run of one step ends as the step does.
-use Rattle.cpu.proofs.Runs.{stepped}
+use Rattle.stepper.proofs.Once.{stepped}
 use borrow.Author.Needs.{needs}
-use Rattle.cpu.proofs.stepper.step_value.Statement.{statement}
-use Rattle.cpu.proofs.stepper.step_value.Tie as tie
+use Rattle.stepper.proofs.value.step_value.Statement.{statement}
+use Rattle.stepper.proofs.value.step_value.Tie as tie
 
 pub step-value-spec : {M : Type 1} → statement M
 step-value-spec =

@@ -1,7 +1,7 @@
 -- Each ending has its own.
 use borrow.Author.Needs.{needs}
-use Rattle.cpu.proofs.stepper.step_outcome.Statement.{statement}
-use Rattle.cpu.proofs.stepper.step_outcome.Tie as tie
+use Rattle.stepper.proofs.value.step_outcome.Statement.{statement}
+use Rattle.stepper.proofs.value.step_outcome.Tie as tie
 
 pub step-outcome-spec : {M : Type 1} → statement M
 step-outcome-spec =

@@ -1,0 +1,43 @@
+-- A run of one step is the step.
+use Prim.Native.Nat.{ℕ}
+use mathlib.Core.Bool.{Bool, true, false}
+use mathlib.Core.List.{List}
+use mathlib.Core.Path.{_≡_, refl, ap, _∙_}
+use lib.Dec.{eqb}
+use lib.ListN.{length}
+use Rattle.isa.specs.Refusal.{refusal}
+use Rattle.cpu.specs.declared.machine.Machine.{Machine}
+use Rattle.cpu.specs.declared.outcome.Outcome.{Outcome}
+use Rattle.cpu.specs.declared.outcome.Outcome.the-variants.{Completed, Halted, Stopped, Refused}
+use Rattle.cpu.specs.declared.runner.RunOutcome.{RunOutcome}
+use Rattle.cpu.specs.declared.runner.RunOutcome.the-variants.{Spent}
+use Rattle.cpu.specs.Memory.{memorySize}
+use Rattle.cpu.specs.Step.{State, StepResult, stepResult, stepOf}
+use Rattle.cpu.specs.Run.{RunResult, runResult, goOn, runFrom, runOf}
+use Rattle.stepper.specs.Ends.{asStep}
+
+-- a run of one step, as a step
+abbrev asStepResult : RunResult → StepResult
+asStepResult r = stepResult (r .state .machine) (r .state .memory) (asStep (r .outcome))
+
+after-one : (o : Outcome) (s : State) → asStepResult (goOn o s 0 (record { state = s; outcome = Spent; count = 1 })) ≡ record { state = s; outcome = o }
+after-one Completed s = refl
+after-one Halted s = refl
+after-one (Stopped number) s = refl
+after-one (Refused r) s = refl
+
+wrong : (m : Machine) (memory : List ℕ) → eqb (length memory) memorySize ≡ false → stepResult m memory (Refused (refusal 1)) ≡ stepOf m memory
+unfolding stepOf
+wrong m memory e = simp e
+
+one-is-step : (m : Machine) (memory : List ℕ) → asStepResult (runOf 1 m memory) ≡ stepOf m memory
+unfolding runOf runFrom
+one-is-step m memory = go (eqb (length memory) memorySize) refl
+  where
+    go : (t : Bool) → eqb (length memory) memorySize ≡ t → asStepResult (runOf 1 m memory) ≡ stepOf m memory
+    go true e = simp e (after-one (stepOf m memory .outcome) (stepOf m memory .state))
+    go false e = simp e (wrong m memory e)
+
+pub stepped : (m m′ : Machine) (memory memory′ : List ℕ) (outcome : RunOutcome) (count : ℕ)
+    → runResult m′ memory′ outcome count ≡ runOf 1 m memory → stepResult m′ memory′ (asStep outcome) ≡ stepOf m memory
+stepped m m′ memory memory′ outcome count ran = ap asStepResult ran ∙ one-is-step m memory

@@ -1,0 +1,39 @@
+// A step by value.
+use cpu::Machine;
+use cpu::Outcome;
+use cpu::RunOutcome;
+use cpu::run;
+ghost use mathlib.Core.Path.{_≡_};
+ghost use Rattle.cpu.specs.Step.{stepResult, stepOf};
+ghost use Rattle.stepper.specs.Ends.{asStep};
+
+// The machine after a step, and how the step ended.
+pub struct Stepped {
+    pub machine: Machine,
+    pub outcome: Outcome,
+}
+
+// How a run of one step ended, as a step's end.
+fn step_outcome(outcome: RunOutcome) -> Outcome
+    ensures { λ r. ⌜ r ≡ asStep outcome ⌝ }
+{
+    match outcome {
+        RunOutcome::Spent => Outcome::Completed,
+        RunOutcome::Halted => Outcome::Halted,
+        RunOutcome::Stopped(number) => Outcome::Stopped(number),
+        RunOutcome::Refused(refusal) => Outcome::Refused(refusal),
+    }
+}
+
+// One step of a machine by value: a run with a budget of 1.
+pub fn step_value(m: Machine, memory: &mut [u8]) -> Stepped
+    ensures { λ r. ⌜ stepResult (r .machine) (now (memory .exit)) (r .outcome) ≡ stepOf m (now (memory .entry)) ⌝ }
+{
+    let r = run(m, memory, 1);
+    let machine = r.machine;
+    let outcome = r.outcome;
+    Stepped {
+        machine,
+        outcome: step_outcome(outcome),
+    }
+}
