@@ -21,7 +21,7 @@ fn is_defined(h: u16) -> bool {
 fn is_fit(h: u16) -> bool {
     let mut block = [0u8; 512];
     let code = [h, 0];
-    image::pack(&code, 256, 256, &mut block);
+    packer::pack(&code, 256, 256, &mut block);
     match verifier::verify(&block) {
         Verdict::Fit(_) => true,
         Verdict::Refused(_) => false,

@@ -34,7 +34,7 @@ pub(crate) fn print_shift() {
 // Packs a code into one block and says what the verifier makes of it.
 fn print_code(words: &[u8], code: &[u16], length: u16) {
     let mut block = [0u8; 512];
-    image::pack(code, WINDOW, length, &mut block);
+    packer::pack(code, WINDOW, length, &mut block);
     print(b"verifying ");
     print(words);
     print(b": ");
@@ -43,7 +43,7 @@ fn print_code(words: &[u8], code: &[u16], length: u16) {
 
 fn print_packed(code: &[u16]) {
     let mut block = [0u8; 512];
-    image::pack(code, WINDOW, WINDOW, &mut block);
+    packer::pack(code, WINDOW, WINDOW, &mut block);
     print(b"packing P with l 256: 1 block, last halfword 0x");
     print_hex(block[511]);
     print_hex(block[510]);

@@ -24,7 +24,7 @@ fn cleared() -> Machine {
 fn count_blocks(file: &[u8]) -> u64 {
     let mut n: usize = 0;
     while n < 64 {
-        let block = image::given_at(file, n);
+        let block = reader::given_at(file, n);
         if block.len() == 0 {
             return n as u64;
         }

@@ -1,12 +1,19 @@
--- A block of a file: its length, and where its halfwords stand in the file.
+-- A block of a file: which part it is, its length, and where its halfwords stand in the file.
 use mathlib.Core.Path.{_≡_, ap, ap₂, _∙_}
 use mathlib.Core.List.{List}
-use Prim.Native.Nat.{ℕ, _+_, _*_, _≤_, _<_}
+use Prim.Native.Nat.{ℕ, _+_, _-_, _*_, _≤_, _<_}
 use native.Mathlib.Omega.{arith}
-use lib.ListN.{length, getD, drop, length-drop}
+use lib.ListN.{length, getD, take, drop, length-drop}
 use lib.Seq.{getD-take, getD-drop, length-take-le}
 use Rattle.image.specs.Format.{blockBytes, blockHalfwords}
 use Rattle.image.specs.Block.{halfwordAt, blockOf, halfword}
+
+-- the part of a file from a block's start to its end is that block
+pub part-is-block : (file : List ℕ) (k : ℕ) → take (blockBytes * k + blockBytes - blockBytes * k) (drop (blockBytes * k) file) ≡ blockOf file k
+unfolding blockOf
+part-is-block file k =
+    let size : 512 * k + 512 - 512 * k ≡ 512 = omega arith in
+    ap (λ (n : ℕ). take n (drop (512 * k) file)) size
 
 pub block-length : (file : List ℕ) (k : ℕ) → blockBytes * k + blockBytes ≤ length file → length (blockOf file k) ≡ blockBytes
 unfolding blockOf

@@ -2,6 +2,4 @@ pub mod Lists
 pub mod Blocks
 pub mod Answers
 pub mod Verdicts
-pub mod Images
-pub mod Packing
 pub mod Valid

@@ -2,5 +2,3 @@ pub mod Format
 pub mod Block
 pub mod Code
 pub mod Check
-pub mod Pack
-pub mod Reader

@@ -35,7 +35,7 @@ pub(crate) fn field(block: &[u8], j: usize) -> u16
 
 // One halfword more in the sum of a block. Sums wrap, so the halfwords may come
 // in any order.
-pub(crate) fn add_to_sum(sum: u16, h: u16) -> u16
+fn add_to_sum(sum: u16, h: u16) -> u16
     ensures { λ r. ⌜ r ≡ addedTo sum h ⌝ }
 {
     std::num::wrapping_add_u16(sum, h)

@@ -117,8 +117,9 @@ fn has_window_of(block: &[u8], first: &[u8]) -> bool
     field(block, 3) == field(first, 3) && field(block, 4) == field(first, 4)
 }
 
-// Check 8, of `c` bytes of code and the window.
-pub(crate) fn is_window(c: u16, w: u16, l: u16) -> bool
+// Check 8, of `c` bytes of code and the window of `l` bytes from `w`: the window
+// is aligned, not empty, after the code, and ends in memory.
+pub fn is_window(c: u16, w: u16, l: u16) -> bool
     ensures { λ r. ⌜ r ≡ check8 c w l ⌝ }
 {
     if w % 4 != 0 {

@@ -1,22 +1,20 @@
-// The blocks of an image: the check of a file, its code, the reader of its
-// blocks, and the packer.
+// The format of an image: its numbers, the check of a file, and the code that an
+// accepted file holds.
 mod answer;
 mod block;
 mod checker;
 mod code;
 mod format;
-mod packer;
-mod reader;
-mod writer;
 
+pub use answer::Answer;
 pub use checker::Checked;
 pub use checker::Layout;
 pub use checker::check;
+pub use checker::is_window;
 pub use code::code_at;
-pub use packer::Packed;
-pub use packer::pack;
-pub use reader::BlockReader;
-pub use reader::answer_of;
-pub use reader::given_at;
-pub use reader::next;
-pub use reader::open;
+pub use format::BLOCK_BYTES;
+pub use format::BLOCK_CODE;
+pub use format::BLOCK_HALFWORDS;
+pub use format::HEADER_HALFWORDS;
+pub use format::MARK;
+pub use format::MOST_CODE;

@@ -11,17 +11,17 @@ use lib.Dec.{eqb}
 use lib.ListN.{length, getD, List·getD-eq-default}
 use lib.Seq.{ext-getD}
 use Rattle.image.specs.Format.{blockBytes, blockHalfwords, blockCode, headerHalfwords}
-use Rattle.image.specs.Block.{halfwordAt, blocksIn, blockOf, halfword, usedOf, codeHalfword, windowStartOf, windowLengthOf, sumBelow, sumOf}
+use Rattle.image.specs.Block.{halfwordAt, byteOf, blocksIn, blockOf, halfword, usedOf, codeHalfword, windowStartOf, windowLengthOf, sumBelow, sumOf}
 use Rattle.image.specs.Code.{codeAt, codeLength, codeOf}
 use Rattle.image.specs.Check.{firstNo, check3, check4, check5, check6, check7, usedRight, unusedZero, blockChecks, layoutOf, checkOf}
-use Rattle.image.specs.Pack.{blocksNeeded, usedIn, headerOf, bodyHalfword, balanceOf, imageHalfword, byteOf, imageOf}
+use Rattle.packer.specs.Pack.{blocksNeeded, usedIn, headerOf, bodyHalfword, balanceOf, imageHalfword, imageOf}
 use Rattle.image.specs.declared.answer.Answer.the-variants.{Pass}
 use Rattle.image.specs.declared.checker.Layout.{Layout}
 use Rattle.image.specs.declared.checker.Checked.the-variants.{Valid}
 use Rattle.image.proofs.Answers.{head-passed, tail-passed}
 use Rattle.image.proofs.Verdicts.{and-left, and-right, passed6, used-right}
 use Rattle.image.proofs.Blocks.{block-halfword}
-use Rattle.image.proofs.Images.{image-length, image-at, balance-is, balance-at, body-at}
+use Rattle.packer.proofs.Images.{image-length, image-at, balance-is, balance-at, body-at}
 use Rattle.image.proofs.Valid.{code-length, code-halfword, valid-layout, valid-size, valid-block, last-used}
 use Rattle.image_laws.specs.Claims.{Bytes}
 use Rattle.image_laws.proofs.Halves.{lt-or-ge, half-less, even-place, odd-place, sum-same, unused-each, low-byte, high-byte}

@@ -7,14 +7,14 @@ use borrow.Author.Tests.{leb-true, le-leb, eq-eqb}
 use lib.Dec.{leb}
 use lib.ListN.{length}
 use Rattle.image.specs.Format.{tabulateFrom}
-use Rattle.image.specs.Block.{blockOf, sumBelow}
+use Rattle.image.specs.Block.{byteOf, blockOf, sumBelow}
 use Rattle.image.specs.Code.{codeAt, codeLength, codeOf}
 use Rattle.image.specs.Check.{firstNo, check2, check3, check4, check5, check6, check7, check8, unusedZero, checksBelow, layoutOf, checkOf}
-use Rattle.image.specs.Pack.{bodyHalfword, balanceOf, imageHalfword, byteOf, imageOf, check15, check16, blocksNeeded, packChecks, packedAs, packOf, outputAs, outputOf}
+use Rattle.packer.specs.Pack.{bodyHalfword, balanceOf, imageHalfword, imageOf, check15, check16, blocksNeeded, packChecks, packedAs, packOf, outputAs, outputOf}
 use Rattle.image.specs.declared.answer.Answer.{Answer}
 use Rattle.image.specs.declared.answer.Answer.the-variants.{Pass, Refused}
-use Rattle.image.specs.declared.packer.Packed.{Packed}
-use Rattle.image.specs.declared.packer.Packed.the-variants.{Done}
+use Rattle.packer.specs.declared.packer.Packed.{Packed}
+use Rattle.packer.specs.declared.packer.Packed.the-variants.{Done}
 use Rattle.image.proofs.Answers.{passed-head, head-passed, tail-passed}
 use Rattle.image.proofs.Valid.{valid-size, valid-code, valid-code-bytes, valid-fits}
 use Rattle.image.proofs.Verdicts.{and-left, and-right}

@@ -15,13 +15,13 @@ use Rattle.image.specs.Format.{blockHalfwords, blockCode, headerHalfwords, most
 use Rattle.image.specs.Block.{halfwordAt, blocksIn, blockOf, halfword, usedOf, codeHalfword, sumBelow, sumOf}
 use Rattle.image.specs.Code.{codeAt, codeLength, codeOf}
 use Rattle.image.specs.Check.{whole, firstNo, check2, check3, check4, check5, check6, check7, check8, usedRight, unusedZero, blockChecks, checksBelow, layoutOf, layoutFits, checkedAs, checkOf}
-use Rattle.image.specs.Pack.{blocksNeeded, usedIn, bodyHalfword, balanceOf, imageHalfword, imageOf}
+use Rattle.packer.specs.Pack.{blocksNeeded, usedIn, bodyHalfword, balanceOf, imageHalfword, imageOf}
 use Rattle.image.specs.declared.answer.Answer.{Answer}
 use Rattle.image.specs.declared.answer.Answer.the-variants.{Pass}
 use Rattle.image.specs.declared.checker.Checked.the-variants.{Valid}
 use Rattle.image.proofs.Blocks.{block-halfword}
 use Rattle.image.proofs.Answers.{orElse, first-append, passed-head, next}
-use Rattle.image.proofs.Images.{image-length, image-low, image-high, body-at, balance-at, sum-less}
+use Rattle.packer.proofs.Images.{image-length, image-low, image-high, body-at, balance-at, sum-less}
 use Rattle.image.proofs.Valid.{code-length, code-halfword}
 use Rattle.image_laws.specs.Claims.{layout}
 use Rattle.image_laws.proofs.Halves.{sum-same, unused-all, rejoined, sum-back}

@@ -10,7 +10,7 @@ use lib.ListN.{length}
 use Rattle.isa.specs.declared.refusal.Refusal.{Refusal}
 use Rattle.image.specs.Block.{blocksIn, blockOf}
 use Rattle.image.specs.Check.{checkOf}
-use Rattle.image.specs.Reader.{partOf, afterOf, startAs, startOf, givenAs, givenOf}
+use Rattle.reader.specs.Reader.{partOf, afterOf, startAs, startOf, givenAs, givenOf}
 use Rattle.image.specs.declared.checker.Layout.{Layout}
 use Rattle.image.specs.declared.checker.Checked.{Checked}
 use Rattle.image.specs.declared.checker.Checked.the-variants.{Valid, Refused}

@@ -8,11 +8,11 @@ use Rattle.image.specs.Format.{blockBytes}
 use Rattle.image.specs.Block.{blocksIn, blockOf, halfword}
 use Rattle.image.specs.Code.{codeOf}
 use Rattle.image.specs.Check.{checkOf}
-use Rattle.image.specs.Reader.{partOf, afterOf, startOf, givenOf}
-use Rattle.image.specs.Pack.{imageOf, packOf, outputOf}
+use Rattle.reader.specs.Reader.{partOf, afterOf, startOf, givenOf}
+use Rattle.packer.specs.Pack.{imageOf, packOf, outputOf}
 use Rattle.image.specs.declared.checker.Layout.{Layout}
 use Rattle.image.specs.declared.checker.Checked.the-variants.{Valid, Refused}
-use Rattle.image.specs.declared.packer.Packed.the-variants.{Done}
+use Rattle.packer.specs.declared.packer.Packed.the-variants.{Done}
 
 abbrev pub layout : ℕ → ℕ → ℕ → Layout
 layout c w l = record { «code_bytes» = c; «window_start» = w; «window_length» = l }

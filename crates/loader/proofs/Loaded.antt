@@ -10,9 +10,9 @@ use lib.Dec.{eqb, ltb, leb}
 use lib.ListN.{length, getD, set, take, drop, replicate, length-set, length-take, length-drop, length-append, length-replicate, getD-replicate, List·getD-append}
 use lib.Seq.{getD-set-same, getD-set-other, getD-take, getD-drop, getD-append-add, ext-getD}
 use Rattle.image.proofs.Lists.{length-tabulate, tabulate-at}
+use Rattle.image.specs.Block.{byteOf}
 use Rattle.image.specs.Code.{codeAt, codeOf}
 use Rattle.image.specs.Format.{memoryBytes, tabulate}
-use Rattle.image.specs.Pack.{byteOf}
 use Rattle.image.specs.declared.checker.Layout.{Layout}
 use Rattle.loader.specs.Copy.{withHalfword, withCode, cleared}
 use Rattle.loader.specs.Load.{codeByte, inWindow, loadedByte, loadedMemory}

@@ -5,9 +5,9 @@ use Prim.Native.Nat.{ℕ, _+_, _/_, _%_}
 use lib.Dec.{eqb, leb, ltb}
 use lib.ListN.{length, getD}
 use Rattle.isa.specs.Refusal.{refusal}
+use Rattle.image.specs.Block.{byteOf}
 use Rattle.image.specs.Code.{codeOf}
 use Rattle.image.specs.Format.{memoryBytes, tabulate}
-use Rattle.image.specs.Pack.{byteOf}
 use Rattle.image.specs.declared.checker.Layout.{Layout}
 use Rattle.verifier.specs.Verify.{verifyOf}
 use Rattle.verifier.specs.declared.verifier.Verdict.{Verdict}

@@ -5,8 +5,8 @@ use Rattle.isa.specs.declared.refusal.Refusal.{Refusal}
 use Rattle.image.specs.declared.checker.Checked.{Checked}
 use Rattle.image.specs.declared.checker.Checked.the-variants as checked
 use Rattle.image.specs.declared.checker.Layout.{Layout}
-use Rattle.image.specs.declared.packer.Packed.{Packed}
-use Rattle.image.specs.declared.packer.Packed.the-variants as packed
+use Rattle.packer.specs.declared.packer.Packed.{Packed}
+use Rattle.packer.specs.declared.packer.Packed.the-variants as packed
 use Rattle.verifier.specs.declared.verifier.Verdict.{Verdict}
 use Rattle.verifier.specs.declared.verifier.Verdict.the-variants as verdict
 use Rattle.loader.specs.declared.loader.Loaded.{Loaded}

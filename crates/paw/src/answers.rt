@@ -1,10 +1,10 @@
 // Answers as numbers.
 use image::Checked;
 use image::Layout;
-use image::Packed;
 use isa::Place;
 use isa::Refusal;
 use loader::Loaded;
+use packer::Packed;
 use verifier::Verdict;
 ghost use mathlib.Core.Path.{_≡_};
 ghost use Rattle.isa.specs.Refusal.{placeNumber};

@@ -4,8 +4,8 @@ use super::answers::packed_number;
 ghost use mathlib.Core.Path.{_≡_};
 ghost use lib.ListN.{length};
 ghost use Rattle.image.specs.Check.{checkOf};
-ghost use Rattle.image.specs.Reader.{givenOf};
-ghost use Rattle.image.specs.Pack.{packOf, outputOf};
+ghost use Rattle.reader.specs.Reader.{givenOf};
+ghost use Rattle.packer.specs.Pack.{packOf, outputOf};
 ghost use Rattle.paw.specs.Answers.{checkedWord, packedNumber};
 
 // Puts checks 2 to 8 to a file.
@@ -22,7 +22,7 @@ pub extern "C" fn paw_check(file: &[u8]) -> u64
 pub extern "C" fn paw_block(file: &[u8], n: usize) -> usize
     ensures { λ r. ⌜ r ≡ length (givenOf (now (file .entry)) n) ⌝ }
 {
-    let block = image::given_at(file, n);
+    let block = reader::given_at(file, n);
     block.len()
 }
 
@@ -32,5 +32,5 @@ pub extern "C" fn paw_block(file: &[u8], n: usize) -> usize
 pub extern "C" fn paw_pack(code: &[u16], w: u16, l: u16, out: &mut [u8]) -> u32
     ensures { λ r. ⌜ (r ≡ packedNumber (packOf (now (code .entry)) w l (length (now (out .entry))))) × (now (out .exit) ≡ outputOf (now (code .entry)) w l (now (out .entry))) ⌝ }
 {
-    packed_number(image::pack(code, w, l, out))
+    packed_number(packer::pack(code, w, l, out))
 }

@@ -9,8 +9,8 @@ use borrow.Author.Tests.{eq-eqb}
 use lib.Dec.{eqb}
 use lib.ListN.{length, getD, getD-replicate}
 use Rattle.isa.specs.declared.decoder.Decoded.the-variants.{Defined}
+use Rattle.image.specs.Block.{byteOf}
 use Rattle.image.specs.Code.{codeOf}
-use Rattle.image.specs.Pack.{byteOf}
 use Rattle.image.specs.declared.checker.Layout.{Layout}
 use Rattle.domain.specs.Value.{unknownOf}
 use Rattle.domain_laws.proofs.Sound.{unknown-sound}

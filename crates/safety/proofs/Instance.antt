@@ -8,9 +8,9 @@ use native.Mathlib.Omega.{arith}
 use lib.Dec.{T, ltb, ltb→lt}
 use lib.ListN.{length, getD, replicate, length-replicate, getD-replicate, List·getD-eq-default}
 use Rattle.isa_laws.proofs.Every.{every, at}
-use Rattle.image.specs.Block.{sumBelow}
+use Rattle.image.specs.Block.{byteOf, sumBelow}
 use Rattle.image.specs.Format.{tabulateFrom}
-use Rattle.image.specs.Pack.{bodyHalfword, balanceOf, imageHalfword, byteOf, imageOf}
+use Rattle.packer.specs.Pack.{bodyHalfword, balanceOf, imageHalfword, imageOf}
 use Rattle.cpu.specs.Memory.{byteAt}
 use Rattle.cpu.specs.Machine.{Flags}
 use Rattle.table_laws.proofs.Table.{starred-rows}

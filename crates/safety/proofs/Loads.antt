@@ -11,9 +11,9 @@ use lib.ListN.{length, getD, List·getD-eq-default}
 use Rattle.isa.specs.Refusal.{refusal}
 use Rattle.image.proofs.Lists.{length-tabulate, tabulate-at}
 use Rattle.image.proofs.Valid.{code-length, code-halfword, code-fits}
+use Rattle.image.specs.Block.{byteOf}
 use Rattle.image.specs.Code.{codeAt, codeOf}
 use Rattle.image.specs.Format.{memoryBytes, tabulate}
-use Rattle.image.specs.Pack.{byteOf}
 use Rattle.image.specs.declared.checker.Layout.{Layout}
 use Rattle.verifier.specs.Verify.{verifyOf}
 use Rattle.verifier.specs.declared.verifier.Verdict.{Verdict}

@@ -2,7 +2,7 @@
 use mathlib.Core.List.{List}
 use Prim.Native.Nat.{ℕ}
 use lib.ListN.{replicate}
-use Rattle.image.specs.Pack.{imageOf}
+use Rattle.packer.specs.Pack.{imageOf}
 use Rattle.image.specs.declared.checker.Layout.{Layout}
 use Rattle.cpu.specs.declared.machine.Machine.{Machine}
 use Rattle.loader.specs.Load.{loadedMemory}

@@ -12,7 +12,7 @@ use Rattle.cpu.specs.Machine.{reg, flags, machine}
 use Rattle.cpu.specs.Step.{State, StepResult, executeOf, executeDecoded}
 use Rattle.cpu.specs.Machine.{Flags}
 use Rattle.cpu.specs.declared.machine.Machine.{Machine}
-use Rattle.image.specs.Pack.{imageOf}
+use Rattle.packer.specs.Pack.{imageOf}
 use Rattle.verifier.specs.Verify.{verifyOf}
 use Rattle.verifier.specs.declared.verifier.Verdict.the-variants.{Fit, Refused}
 

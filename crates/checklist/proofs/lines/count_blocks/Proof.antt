@@ -5,7 +5,7 @@ use Rattle.checklist.proofs.lines.count_blocks.Statement.{statement}
 use Rattle.checklist.proofs.lines.count_blocks.Tie as tie
 use Rattle.checklist.proofs.lines.count_blocks.Reads as reads
 use Rattle.checklist.proofs.lines.count_blocks.Lts as lts
-use Rattle.image.proofs.given_at.Reads as given-at-reads
+use Rattle.reader.proofs.given_at.Reads as given-at-reads
 
 abbrev Inv-loop : tie.InvT-loop
 Inv-loop file n₀ n = n ≤ 64
