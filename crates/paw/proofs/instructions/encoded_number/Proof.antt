@@ -1,7 +1,7 @@
 -- Each case is the definition's.
 use mathlib.Core.Path.{_≡_, refl, sym, ap, _∙_}
 use borrow.Author.Needs.{needs}
-use Rattle.paw.specs.Instructions.{wordOf, decodedWord, instructionOf, encodedNumber, encodedWord}
+use Rattle.paw.specs.Instructions.{encodedNumber}
 use Rattle.paw.proofs.instructions.encoded_number.Statement.{statement}
 use Rattle.paw.proofs.instructions.encoded_number.Tie as tie
 

@@ -1,9 +1,7 @@
 -- The word of what `decode` answers.
-use mathlib.Core.Path.{_≡_, refl, sym, ap, _∙_}
+use mathlib.Core.Path.{ap, _∙_}
 use borrow.Author.Needs.{needs}
-use Rattle.paw.specs.Instructions.{wordOf, decodedWord, instructionOf, encodedNumber, encodedWord}
-use Rattle.isa.specs.Decode.{decodeOf}
-use Rattle.isa.specs.declared.decoder.Decoded.the-variants.{Defined, Undefined}
+use Rattle.words.specs.Words.{decodedWord}
 use Rattle.paw.proofs.instructions.paw_decode.Statement.{statement}
 use Rattle.paw.proofs.instructions.paw_decode.Tie as tie
 
@@ -12,8 +10,5 @@ paw-decode-spec =
     tie.close
     (tie.spec
     (λ c κs. search needs)
-    (λ c. search needs)
     (λ c κs. search needs)
-    (λ c. search needs)
-    (λ c. let e : Defined (c .before .before .i .given .0 .0) ≡ decodeOf (c .before .before .before .before .before .args .h) = cc in c .word-of .ensures ∙ ap decodedWord e)
-    (λ c. let e : Undefined ≡ decodeOf (c .before .before .before .args .h) = cc in ap decodedWord e))
+    (λ c. c .decoded-word .ensures ∙ ap decodedWord (c .before .decode .ensures)))

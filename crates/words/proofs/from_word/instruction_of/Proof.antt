@@ -4,8 +4,8 @@ use native.Mathlib.Omega.{arith}
 use Prim.Native.Nat.{ℕ, _+_, _-_, _*_, _/_, _%_, _^_, _<_, _≤_, zero-le}
 use Rattle.isa.proofs.Table.{entry-past, skip}
 use borrow.Author.Needs.{needs}
-use Rattle.paw.proofs.instructions.instruction_of.Statement.{statement}
-use Rattle.paw.proofs.instructions.instruction_of.Tie as tie
+use Rattle.words.proofs.from_word.instruction_of.Statement.{statement}
+use Rattle.words.proofs.from_word.instruction_of.Tie as tie
 
 pub instruction-of-spec : {M : Type 1} → statement M
 instruction-of-spec =

@@ -1,9 +1,9 @@
 -- Each arm is its instruction's word.
 use mathlib.Core.Path.{_≡_, refl, sym, ap, _∙_}
 use borrow.Author.Needs.{needs}
-use Rattle.paw.specs.Instructions.{wordOf, decodedWord, instructionOf, encodedNumber, encodedWord}
-use Rattle.paw.proofs.instructions.word_of.Statement.{statement}
-use Rattle.paw.proofs.instructions.word_of.Tie as tie
+use Rattle.words.specs.Words.{wordOf}
+use Rattle.words.proofs.to_word.word_of.Statement.{statement}
+use Rattle.words.proofs.to_word.word_of.Tie as tie
 
 pub word-of-spec : {M : Type 1} → statement M
 word-of-spec =
