@@ -1,10 +1,13 @@
 -- A run's turns: what is left of it at each is what was to be done at the start.
 use Prim.Native.Nat.{ℕ, suc, _+_, _-_, _<_, _≤_}
 use native.Mathlib.Omega.{arith}
-use mathlib.Core.List.{List}
-use mathlib.Core.Path.{_≡_, sym, ap, _∙_}
+use mathlib.Core.List.{List, [], _∷_}
+use mathlib.Core.Logic.{⊎-elim}
+use mathlib.Core.Path.{_≡_, refl, sym, ap, _∙_}
 use lib.ListN.{length}
 use borrow.Author.Tests.{eq-eqb, ne-eqb}
+use types.Run.{OneOf}
+use denote.Enum.Declared.{tagOf}
 use Rattle.isa.specs.Refusal.{refusal}
 use Rattle.isa.specs.declared.refusal.Refusal.{Refusal}
 use Rattle.cpu.specs.declared.held.Control.{Control}
@@ -13,11 +16,13 @@ use Rattle.cpu.specs.declared.machine.Machine.{Machine}
 use Rattle.cpu.specs.declared.runner.Ran.{Ran}
 use Rattle.cpu.specs.declared.runner.RunOutcome.{RunOutcome}
 use Rattle.cpu.specs.declared.runner.RunOutcome.the-variants.{Spent, Refused as RunRefused}
-use Rattle.cpu.specs.declared.outcome.Outcome.the-variants.{Completed}
+use Rattle.cpu.specs.declared.outcome.Outcome.{Outcome}
+use Rattle.cpu.specs.declared.outcome.Outcome.the-variants.{Completed, Halted, Stopped, Refused}
 use Rattle.cpu.specs.Memory.{memorySize}
 use Rattle.cpu.specs.Step.{State, StepResult, stepResult, fetchAndExecute, stepOf}
 use Rattle.cpu.specs.Run.{RunResult, runResult, goOn, runFrom, runOf}
-use Rattle.cpu.specs.Held.{held, Leads}
+use Rattle.cpu.specs.Held.{held, asRun, Leads}
+use Rattle.cpu.proofs.outcome.Outcome.{the-type}
 
 abbrev pub state : Machine → List ℕ → State
 state m memory = record { machine = m; memory = memory }
@@ -40,6 +45,20 @@ turn : (left count : ℕ) (s : State) (r : StepResult) → stepOf (s .machine) (
 unfolding runFrom
 turn left count s r step =
     ap (λ (q : StepResult). goOn (q .outcome) (q .state) count (runFrom left (count + 1) (q .state))) step
+
+-- an outcome that is not the first, which is that of a completed step
+abbrev pub Last : Outcome → Type 0
+Last o = OneOf (1 ∷ 2 ∷ 3 ∷ []) (tagOf the-type o)
+
+not-last : Last Completed → ⊥
+not-last = ⊎-elim (λ e. omega (arith, e)) (⊎-elim (λ e. omega (arith, e)) (λ e. omega (arith, e)))
+
+-- the run ends as such a step did
+last-step : (o : Outcome) (s : State) (count : ℕ) (rest : RunResult) → Last o → goOn o s count rest ≡ record { state = s; outcome = asRun o; count = count }
+last-step Completed s count rest last = absurd (not-last last)
+last-step Halted s count rest last = refl
+last-step (Stopped number) s count rest last = refl
+last-step (Refused r) s count rest last = refl
 
 -- what a run's last lines answer
 abbrev pub Ends : Ran → List ℕ → Control → RunOutcome → ℕ → Type 0
@@ -65,16 +84,14 @@ module _ (budget : ℕ) (m₀ : Machine) (memory₀ : List ℕ) (right₀ : leng
         answers r regs memory k Spent count ends (rw z at from-start)
 
     -- one more turn, where the step doesn't complete
-    pub run-ends : (r : Ran) (regs′ memory′ : List ℕ) (e : Executed) (outcome : RunOutcome) → count < budget → length memory ≡ memorySize
-        → Leads regs′ e memory′ (fetchAndExecute (held regs k) memory)
-        → ((rest : RunResult) → goOn (e .outcome) (state (held regs′ (e .control)) memory′) count rest ≡ runResult (held regs′ (e .control)) memory′ outcome count)
-        → Ends r regs′ (e .control) outcome count
+    pub run-ends : (r : Ran) (regs′ memory′ : List ℕ) (e : Executed) → count < budget → length memory ≡ memorySize
+        → Leads regs′ e memory′ (fetchAndExecute (held regs k) memory) → Last (e .outcome) → Ends r regs′ (e .control) (asRun (e .outcome)) count
         → runResult (r .machine) memory′ (r .outcome) (r .count) ≡ runOf budget m₀ memory₀
-    run-ends r regs′ memory′ e outcome more right leads ends-so ends =
+    run-ends r regs′ memory′ e more right leads last ends =
         let t : budget - count ≡ suc (budget - (count + 1)) = omega arith in
         let next = stepResult (held regs′ (e .control)) memory′ (e .outcome) in
-        answers r regs′ memory′ (e .control) outcome count ends
-        (sym (ends-so (runFrom (budget - (count + 1)) (count + 1) (next .state)))
+        answers r regs′ memory′ (e .control) (asRun (e .outcome)) count ends
+        (sym (last-step (e .outcome) (next .state) count (runFrom (budget - (count + 1)) (count + 1) (next .state)) last)
         ∙ (sym (turn (budget - (count + 1)) count (state (held regs k) memory) next (one-step regs memory regs′ memory′ k e right leads))
         ∙ (rw t at from-start)))
 

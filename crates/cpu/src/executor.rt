@@ -39,13 +39,15 @@ fn execute_alu(regs: &mut [u16; 16], k: Control, h: u16) -> Executed
     requires { ⌜ Whole (now regs) ⌝ }
     ensures { λ r. ⌜ Above (now (regs .exit)) r (aluOf h) (held (now (regs .entry)) k) ⌝ }
 {
+    let rs = bits(h, 3, 3);
+    let rd = bits(h, 0, 3);
     match bits(h, 6, 4) {
-        0 => completed(instructions::and(regs, k, bits(h, 3, 3), bits(h, 0, 3))),
-        1 => completed(instructions::eor(regs, k, bits(h, 3, 3), bits(h, 0, 3))),
-        2 => completed(instructions::asr(regs, k, bits(h, 3, 3), bits(h, 0, 3))),
-        3 => completed(instructions::tst(regs, k, bits(h, 3, 3), bits(h, 0, 3))),
-        4 => completed(instructions::neg(regs, k, bits(h, 3, 3), bits(h, 0, 3))),
-        5 => completed(instructions::cmp(regs, k, bits(h, 3, 3), bits(h, 0, 3))),
+        0 => completed(instructions::and(regs, k, rs, rd)),
+        1 => completed(instructions::eor(regs, k, rs, rd)),
+        2 => completed(instructions::asr(regs, k, rs, rd)),
+        3 => completed(instructions::tst(regs, k, rs, rd)),
+        4 => completed(instructions::neg(regs, k, rs, rd)),
+        5 => completed(instructions::cmp(regs, k, rs, rd)),
         _ => stopped(k, 19),
     }
 }
@@ -55,16 +57,18 @@ fn execute_high(regs: &mut [u16; 16], k: Control, h: u16) -> Executed
     requires { ⌜ Whole (now regs) ⌝ }
     ensures { λ r. ⌜ Above (now (regs .exit)) r (highOf h) (held (now (regs .entry)) k) ⌝ }
 {
+    let rs = high_rs(h);
+    let rd = high_rd(h);
     match bits(h, 8, 2) {
-        0 => completed(instructions::add_high(regs, k, high_rs(h), high_rd(h))),
+        0 => completed(instructions::add_high(regs, k, rs, rd)),
         1 => {
             if bits(h, 6, 2) == 0 {
                 stopped(k, 19)
             } else {
-                completed(instructions::cmp_high(regs, k, high_rs(h), high_rd(h)))
+                completed(instructions::cmp_high(regs, k, rs, rd))
             }
         }
-        2 => completed(instructions::mov_high(regs, k, high_rs(h), high_rd(h))),
+        2 => completed(instructions::mov_high(regs, k, rs, rd)),
         _ => stopped(k, 19),
     }
 }

@@ -10,7 +10,7 @@ use super::outcome::wrong_size;
 use isa::Refusal;
 ghost use mathlib.Core.Path.{_≡_};
 ghost use Rattle.cpu.specs.Run.{runResult, runOf};
-ghost use Rattle.cpu.specs.Held.{held};
+ghost use Rattle.cpu.specs.Held.{held, asRun};
 
 // How a run ended: its budget was spent, or as its last step did.
 pub enum RunOutcome {
@@ -27,12 +27,24 @@ pub struct Ran {
     pub count: u32,
 }
 
-fn ended(regs: [u16; 16], k: Control, outcome: RunOutcome, count: u32) -> Ran
-    ensures { λ r. ⌜ (r .machine ≡ held regs k) × (r .outcome ≡ outcome) × (r .count ≡ count) ⌝ }
+// How a run ends after its last step: one that completed spent the budget.
+fn run_outcome(outcome: Outcome) -> RunOutcome
+    ensures { λ r. ⌜ r ≡ asRun outcome ⌝ }
+{
+    match outcome {
+        Outcome::Completed => RunOutcome::Spent,
+        Outcome::Halted => RunOutcome::Halted,
+        Outcome::Stopped(number) => RunOutcome::Stopped(number),
+        Outcome::Refused(refusal) => RunOutcome::Refused(refusal),
+    }
+}
+
+fn ended(regs: [u16; 16], k: Control, outcome: Outcome, count: u32) -> Ran
+    ensures { λ r. ⌜ (r .machine ≡ held regs k) × (r .outcome ≡ asRun outcome) × (r .count ≡ count) ⌝ }
 {
     Ran {
         machine: assemble(regs, k),
-        outcome,
+        outcome: run_outcome(outcome),
         count,
     }
 }
@@ -58,10 +70,8 @@ pub fn run(m: Machine, memory: &mut [u8], budget: u32) -> Ran
         let outcome = e.outcome;
         match outcome {
             Outcome::Completed => count += 1,
-            Outcome::Halted => return ended(regs, k, RunOutcome::Halted, count),
-            Outcome::Stopped(number) => return ended(regs, k, RunOutcome::Stopped(number), count),
-            Outcome::Refused(refusal) => return ended(regs, k, RunOutcome::Refused(refusal), count),
+            _ => return ended(regs, k, outcome, count),
         }
     }
-    ended(regs, k, RunOutcome::Spent, count)
+    ended(regs, k, Outcome::Completed, count)
 }
