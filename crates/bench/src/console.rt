@@ -1,7 +1,6 @@
 // Words and numbers on standard output.
+use board::Refusal;
 use image::Layout;
-use isa::Place;
-use isa::Refusal;
 use libc::STDOUT_FILENO;
 use verifier::Verdict;
 
@@ -23,14 +22,6 @@ pub(crate) fn print_flag(name: &[u8], set: bool) {
     }
 }
 
-fn place_number(p: Place) -> u16 {
-    match p {
-        Place::Nowhere => 0,
-        Place::Block(b) => b as u16,
-        Place::Address(a) => a.0,
-    }
-}
-
 fn print_fit(layout: Layout) {
     print(b"fit ");
     print_number(layout.code_bytes as u64);
@@ -45,7 +36,7 @@ fn print_refused(r: Refusal) {
     print(b"refused ");
     print_number(r.number as u64);
     print(b" ");
-    print_number(place_number(place) as u64);
+    print_number(board::place_number(place) as u64);
 }
 
 // A verdict as the program `judge` writes it, with its line end.

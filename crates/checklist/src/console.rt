@@ -1,7 +1,6 @@
 // Words and numbers on standard output, and complaints on standard error.
+use board::Refusal;
 use image::Layout;
-use isa::Place;
-use isa::Refusal;
 use libc::STDERR_FILENO;
 use libc::STDOUT_FILENO;
 
@@ -16,14 +15,6 @@ pub(crate) fn print_number(n: u64) {
 // A line for standard error.
 pub(crate) fn complain(text: &[u8]) {
     io::write_all(STDERR_FILENO, text);
-}
-
-fn place_number(p: Place) -> u16 {
-    match p {
-        Place::Nowhere => 0,
-        Place::Block(b) => b as u16,
-        Place::Address(a) => a.0,
-    }
 }
 
 // A layout with its line end.
@@ -43,6 +34,6 @@ pub(crate) fn print_refused(r: Refusal) {
     print(b"refused ");
     print_number(r.number as u64);
     print(b" ");
-    print_number(place_number(place) as u64);
+    print_number(board::place_number(place) as u64);
     print(b"\n");
 }

@@ -1,6 +1,5 @@
 // Standard input.
 use libc::STDIN_FILENO;
-ghost use Prim.Native.Nat.{_≤_};
 ghost use lib.ListN.{length};
 ghost use Rattle.checklist.specs.Input.{within};
 

@@ -1,19 +1,19 @@
 -- What a halfword's top five bits tell of it, and how the function of its format ends.
-use Prim.Native.Nat.{ℕ, zero, suc, _+_, _*_, _/_, _%_, _<_, _≤_}
+use Prim.Native.Nat.{ℕ, zero, suc, _+_, _*_, _/_, _<_, _≤_}
 use native.Mathlib.Omega.{arith}
 use mathlib.Core.Bool.{Bool, true, false}
 use mathlib.Core.List.{List}
 use mathlib.Core.Path.{_≡_, refl, sym, ap, _∙_}
 use lib.Seq.{set-set}
-use borrow.Author.Tests.{eq-eqb, ne-eqb, lt-ltb, le-ltb}
-use Rattle.isa.specs.Address.{wrap, branchTargetOf}
-use Rattle.isa.specs.Field.{field}
-use Rattle.isa.specs.Decode.{entry, only, immTable, haltOf, immOf, registersTable, registersOf, memoryTable, branchOf, table, decodeOf}
-use Rattle.isa.specs.declared.address.ByteAddress.{ByteAddress}
+use borrow.Author.Tests.{eq-eqb, ne-eqb, lt-ltb}
+use Rattle.board.specs.Address.{wrap, branchTargetOf}
+use Rattle.board.specs.Field.{field}
+use Rattle.isa.specs.Decode.{entry, immTable, haltOf, registersTable, registersOf, memoryTable, branchOf, decodeOf}
+use Rattle.board.specs.declared.address.ByteAddress.{ByteAddress}
 use Rattle.isa.specs.declared.decoder.Decoded.{Decoded}
 use Rattle.isa.specs.declared.decoder.Decoded.the-variants.{Defined, Undefined}
 use Rattle.isa.specs.declared.instruction.Instruction.{Instruction}
-use Rattle.isa.specs.declared.instruction.Instruction.the-variants.{Halt, AddPc, Branch}
+use Rattle.isa.specs.declared.instruction.Instruction.the-variants.{AddPc, Branch}
 use Rattle.isa.proofs.Table.{entry-past}
 use Rattle.cpu.specs.declared.held.Control.{Control}
 use Rattle.cpu.specs.declared.held.Executed.{Executed}
@@ -21,7 +21,7 @@ use Rattle.cpu.specs.declared.machine.Machine.{Machine}
 use Rattle.cpu.specs.declared.outcome.Outcome.the-variants.{Completed, Halted, Stopped}
 use Rattle.cpu.specs.Alu.{conditionOf}
 use Rattle.cpu.specs.Step.{stepResult, branchOf as branchStep, executeOf, executeDecoded}
-use Rattle.cpu.specs.Held.{statusIn, flagsIn, held, control, branched, Whole, Holds, Leads, Above, Beside}
+use Rattle.cpu.specs.Held.{statusIn, flagsIn, held, control, branched, Whole, Holds, Leads, Beside}
 use Rattle.cpu.proofs.Ends.{pc-is, moved-on}
 use Rattle.cpu.proofs.Access.{Gave, leads, stays}
 

@@ -8,8 +8,9 @@ use lib.ListN.{length}
 use borrow.Author.Tests.{eq-eqb, ne-eqb}
 use types.Run.{OneOf}
 use denote.Enum.Declared.{tagOf}
-use Rattle.isa.specs.Refusal.{refusal}
-use Rattle.isa.specs.declared.refusal.Refusal.{Refusal}
+use Rattle.board.specs.Address.{memoryBytes}
+use Rattle.board.specs.Refusal.{refusal}
+use Rattle.board.specs.declared.refusal.Refusal.{Refusal}
 use Rattle.cpu.specs.declared.held.Control.{Control}
 use Rattle.cpu.specs.declared.held.Executed.{Executed}
 use Rattle.cpu.specs.declared.machine.Machine.{Machine}
@@ -18,7 +19,6 @@ use Rattle.cpu.specs.declared.runner.RunOutcome.{RunOutcome}
 use Rattle.cpu.specs.declared.runner.RunOutcome.the-variants.{Spent, Refused as RunRefused}
 use Rattle.cpu.specs.declared.outcome.Outcome.{Outcome}
 use Rattle.cpu.specs.declared.outcome.Outcome.the-variants.{Completed, Halted, Stopped, Refused}
-use Rattle.cpu.specs.Memory.{memorySize}
 use Rattle.cpu.specs.Step.{State, StepResult, stepResult, fetchAndExecute, stepOf}
 use Rattle.cpu.specs.Run.{RunResult, runResult, goOn, runFrom, runOf}
 use Rattle.cpu.specs.Held.{held, asRun, Leads}
@@ -27,18 +27,18 @@ use Rattle.cpu.proofs.outcome.Outcome.{the-type}
 abbrev pub state : Machine → List ℕ → State
 state m memory = record { machine = m; memory = memory }
 
-pub run-refused : (budget : ℕ) (m : Machine) (memory : List ℕ) (r : Refusal) → (length memory ≡ memorySize → ⊥) → r ≡ refusal 1
+pub run-refused : (budget : ℕ) (m : Machine) (memory : List ℕ) (r : Refusal) → (length memory ≡ memoryBytes → ⊥) → r ≡ refusal 1
     → runResult m memory (RunRefused r) 0 ≡ runOf budget m memory
 unfolding runOf
-run-refused budget m memory r wrong is = simp (ne-eqb (length memory) memorySize wrong, is)
+run-refused budget m memory r wrong is = simp (ne-eqb (length memory) memoryBytes wrong, is)
 
 pub run-starts : (budget : ℕ) (s : State) → runFrom (budget - 0) 0 s ≡ runFrom budget 0 s
 run-starts budget s = let z : budget - 0 ≡ budget = omega arith in rw z
 
-one-step : (regs memory regs′ memory′ : List ℕ) (k : Control) (e : Executed) → length memory ≡ memorySize
+one-step : (regs memory regs′ memory′ : List ℕ) (k : Control) (e : Executed) → length memory ≡ memoryBytes
     → Leads regs′ e memory′ (fetchAndExecute (held regs k) memory) → stepOf (held regs k) memory ≡ stepResult (held regs′ (e .control)) memory′ (e .outcome)
 unfolding stepOf
-one-step regs memory regs′ memory′ k e right leads = simp (eq-eqb (length memory) memorySize right) (sym (leads .result))
+one-step regs memory regs′ memory′ k e right leads = simp (eq-eqb (length memory) memoryBytes right) (sym (leads .result))
 
 turn : (left count : ℕ) (s : State) (r : StepResult) → stepOf (s .machine) (s .memory) ≡ r
     → runFrom (suc left) count s ≡ goOn (r .outcome) (r .state) count (runFrom left (count + 1) (r .state))
@@ -64,12 +64,12 @@ last-step (Refused r) s count rest last = refl
 abbrev pub Ends : Ran → List ℕ → Control → RunOutcome → ℕ → Type 0
 Ends r regs k outcome count = (r .machine ≡ held regs k) × (r .outcome ≡ outcome) × (r .count ≡ count)
 
-module _ (budget : ℕ) (m₀ : Machine) (memory₀ : List ℕ) (right₀ : length memory₀ ≡ memorySize) where
+module _ (budget : ℕ) (m₀ : Machine) (memory₀ : List ℕ) (right₀ : length memory₀ ≡ memoryBytes) where
   answers : (r : Ran) (regs memory : List ℕ) (k : Control) (outcome : RunOutcome) (count : ℕ) → Ends r regs k outcome count
       → runResult (held regs k) memory outcome count ≡ runFrom budget 0 (state m₀ memory₀)
       → runResult (r .machine) memory (r .outcome) (r .count) ≡ runOf budget m₀ memory₀
   unfolding runOf
-  answers r regs memory k outcome count ends done = simp (eq-eqb (length memory₀) memorySize right₀, ends .0, ends .1, ends .2) done
+  answers r regs memory k outcome count ends done = simp (eq-eqb (length memory₀) memoryBytes right₀, ends .0, ends .1, ends .2) done
 
   module _ (regs₀ regs memory : List ℕ) (k₀ k : Control) (count : ℕ) (start : held regs₀ k₀ ≡ m₀)
       (left : runFrom (budget - count) count (state (held regs k) memory) ≡ runFrom budget 0 (state (held regs₀ k₀) memory₀)) where
@@ -84,7 +84,7 @@ module _ (budget : ℕ) (m₀ : Machine) (memory₀ : List ℕ) (right₀ : leng
         answers r regs memory k Spent count ends (rw z at from-start)
 
     -- one more turn, where the step doesn't complete
-    pub run-ends : (r : Ran) (regs′ memory′ : List ℕ) (e : Executed) → count < budget → length memory ≡ memorySize
+    pub run-ends : (r : Ran) (regs′ memory′ : List ℕ) (e : Executed) → count < budget → length memory ≡ memoryBytes
         → Leads regs′ e memory′ (fetchAndExecute (held regs k) memory) → Last (e .outcome) → Ends r regs′ (e .control) (asRun (e .outcome)) count
         → runResult (r .machine) memory′ (r .outcome) (r .count) ≡ runOf budget m₀ memory₀
     run-ends r regs′ memory′ e more right leads last ends =
@@ -97,7 +97,7 @@ module _ (budget : ℕ) (m₀ : Machine) (memory₀ : List ℕ) (right₀ : leng
 
 -- one more turn, where it completes
 pub run-again : (budget : ℕ) (regs memory regs′ memory′ : List ℕ) (k : Control) (count : ℕ) (e : Executed) (all : RunResult)
-    → count < budget → length memory ≡ memorySize → Leads regs′ e memory′ (fetchAndExecute (held regs k) memory) → e .outcome ≡ Completed
+    → count < budget → length memory ≡ memoryBytes → Leads regs′ e memory′ (fetchAndExecute (held regs k) memory) → e .outcome ≡ Completed
     → runFrom (budget - count) count (state (held regs k) memory) ≡ all
     → runFrom (budget - (count + 1)) (count + 1) (state (held regs′ (e .control)) memory′) ≡ all
 run-again budget regs memory regs′ memory′ k count e all more right leads completed left =

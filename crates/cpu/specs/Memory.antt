@@ -3,9 +3,6 @@ use mathlib.Core.List.{List}
 use Prim.Native.Nat.{ℕ, _+_, _*_, _/_, _%_}
 use lib.ListN.{getD, set}
 
-abbrev pub memorySize : ℕ
-memorySize = 65536
-
 abbrev pub byteAt : List ℕ → ℕ → ℕ
 byteAt memory a = getD memory a 0
 

@@ -4,13 +4,13 @@ use mathlib.Core.List.{List}
 use Prim.Native.Nat.{ℕ, zero, suc, _+_}
 use lib.Dec.{eqb}
 use lib.ListN.{length}
-use Rattle.isa.specs.Refusal.{refusal}
+use Rattle.board.specs.Address.{memoryBytes}
+use Rattle.board.specs.Refusal.{refusal}
 use Rattle.cpu.specs.declared.machine.Machine.{Machine}
 use Rattle.cpu.specs.declared.outcome.Outcome.{Outcome}
 use Rattle.cpu.specs.declared.outcome.Outcome.the-variants.{Completed, Halted, Stopped, Refused}
 use Rattle.cpu.specs.declared.runner.RunOutcome.{RunOutcome}
 use Rattle.cpu.specs.declared.runner.RunOutcome.the-variants as ended
-use Rattle.cpu.specs.Memory.{memorySize}
 use Rattle.cpu.specs.Step.{State, stepOf}
 
 -- one step further; a state whose step doesn't complete stays as it is
@@ -47,6 +47,6 @@ runFrom (suc left) count s =
 -- check 1 comes first, whatever the budget
 unfoldable pub runOf : ℕ → Machine → List ℕ → RunResult
 runOf budget m memory =
-    cond (eqb (length memory) memorySize)
+    cond (eqb (length memory) memoryBytes)
     (runFrom budget 0 (record { machine = m; memory = memory }))
     (runResult m memory (ended.Refused (refusal 1)) 0)

@@ -5,9 +5,9 @@ use Prim.Native.Nat.{ℕ, _+_, _*_, _/_, _%_}
 use lib.Bits.{bitAnd, bitXor}
 use lib.Dec.{eqb}
 use lib.ListN.{length, set}
-use Rattle.isa.specs.Address.{wrap, branchTargetOf}
+use Rattle.board.specs.Address.{wrap, branchTargetOf, memoryBytes}
 use Rattle.isa.specs.Decode.{decodeOf}
-use Rattle.isa.specs.Refusal.{refusal}
+use Rattle.board.specs.Refusal.{refusal}
 use Rattle.isa.specs.declared.decoder.Decoded.{Decoded}
 use Rattle.isa.specs.declared.decoder.Decoded.the-variants.{Defined, Undefined}
 use Rattle.isa.specs.declared.instruction.Instruction.{Instruction}
@@ -16,7 +16,7 @@ use Rattle.cpu.specs.declared.machine.Machine.{Machine}
 use Rattle.cpu.specs.declared.outcome.Outcome.{Outcome}
 use Rattle.cpu.specs.declared.outcome.Outcome.the-variants.{Completed, Halted, Stopped, Refused}
 use Rattle.cpu.specs.Machine.{reg, pc, flags, machine, advanced, written}
-use Rattle.cpu.specs.Memory.{memorySize, byteAt, halfwordAt, withByte, withHalfword}
+use Rattle.cpu.specs.Memory.{byteAt, halfwordAt, withByte, withHalfword}
 use Rattle.cpu.specs.Alu.{resultFlags, sumOf, sumFlags, differenceOf, differenceFlags, shiftOf, shiftFlags, conditionOf}
 
 -- a machine and the memory beside it
@@ -172,4 +172,4 @@ fetchAndExecute m memory = cond (eqb (pc m % 2) 0) (executeDecoded (fetched m me
 -- check 1 comes first: a memory of any other size is refused, and nothing changes
 unfoldable pub stepOf : Machine → List ℕ → StepResult
 stepOf m memory =
-    cond (eqb (length memory) memorySize) (fetchAndExecute m memory) (stepResult m memory (Refused (refusal 1)))
+    cond (eqb (length memory) memoryBytes) (fetchAndExecute m memory) (stepResult m memory (Refused (refusal 1)))

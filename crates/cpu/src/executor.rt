@@ -9,14 +9,14 @@ use super::held::stopped;
 use super::instructions;
 use super::memory::load_halfword;
 use super::outcome::Outcome;
-use isa::bits;
-use isa::high_rd;
-use isa::high_rs;
+use board::bits;
+use board::high_rd;
+use board::high_rs;
 ghost use mathlib.Core.Path.{_≡_};
 ghost use lib.ListN.{length};
-ghost use Rattle.isa.specs.Field.{field};
+ghost use Rattle.board.specs.Address.{memoryBytes};
+ghost use Rattle.board.specs.Field.{field};
 ghost use Rattle.isa.specs.Decode.{haltOf, aluOf, highOf, registersOf, branchOf, decodeOf};
-ghost use Rattle.cpu.specs.Memory.{memorySize};
 ghost use Rattle.cpu.specs.Step.{executeDecoded, fetchAndExecute};
 ghost use Rattle.cpu.specs.Held.{held, Whole, Leads, Above, Beside};
 
@@ -102,7 +102,7 @@ fn execute_branch(k: Control, h: u16) -> Executed
 // Does what a halfword says on a machine that is held and its memory. Its top
 // five bits tell its format; of a branch they tell the half of the conditions.
 fn execute(regs: &mut [u16; 16], k: Control, memory: &mut [u8], h: u16) -> Executed
-    requires { ⌜ Whole (now regs) × (length (now memory) ≡ memorySize) ⌝ }
+    requires { ⌜ Whole (now regs) × (length (now memory) ≡ memoryBytes) ⌝ }
     ensures { λ r. ⌜ Leads (now (regs .exit)) r (now (memory .exit)) (executeDecoded (decodeOf h) (held (now (regs .entry)) k) (now (memory .entry))) ⌝ }
 {
     match bits(h, 11, 5) {
@@ -132,7 +132,7 @@ fn execute(regs: &mut [u16; 16], k: Control, memory: &mut [u8], h: u16) -> Execu
 
 // One step, with a memory of the right size.
 pub(crate) fn fetch_and_execute(regs: &mut [u16; 16], k: Control, memory: &mut [u8]) -> Executed
-    requires { ⌜ Whole (now regs) × (length (now memory) ≡ memorySize) ⌝ }
+    requires { ⌜ Whole (now regs) × (length (now memory) ≡ memoryBytes) ⌝ }
     ensures { λ r. ⌜ Leads (now (regs .exit)) r (now (memory .exit)) (fetchAndExecute (held (now (regs .entry)) k) (now (memory .entry))) ⌝ }
 {
     if k.pc % 2 != 0 {

@@ -21,12 +21,11 @@ use super::memory::load_halfword;
 use super::memory::store_byte;
 use super::memory::store_halfword;
 use super::status::condition;
-use isa::ByteAddress;
+use board::ByteAddress;
 ghost use mathlib.Core.Path.{_≡_};
 ghost use Prim.Native.Nat.{_+_, _*_, _/_, _<_};
 ghost use lib.ListN.{length};
-ghost use Rattle.isa.specs.Address.{wrap};
-ghost use Rattle.cpu.specs.Memory.{memorySize};
+ghost use Rattle.board.specs.Address.{wrap, memoryBytes};
 ghost use Rattle.cpu.specs.Step.{addHighOf, addPcOf, andOf, asrOf, cmpImmOf, cmpOf, cmpHighOf, eorOf, ldrOf, ldrbOf, movImmOf, movHighOf, negOf, strOf, strbOf, tstOf};
 ghost use Rattle.cpu.specs.Held.{held, branched, Whole, Holds, Leads};
 
@@ -84,7 +83,7 @@ pub(crate) fn branch(k: Control, cond: u8, offset: u8) -> Control
 {
     let status = status_in(k);
     if condition(cond, status) {
-        let target = isa::branch_target(ByteAddress(k.pc), offset);
+        let target = board::branch_target(ByteAddress(k.pc), offset);
         control_at(target.0, status)
     } else {
         advance(k.pc, status)
@@ -146,7 +145,7 @@ pub(crate) fn ldr(
     rb: u8,
     rd: u8,
 ) -> Executed
-    requires { ⌜ Whole (now regs) × (length (now memory) ≡ memorySize) × (rb < 8) × (rd < 8) ⌝ }
+    requires { ⌜ Whole (now regs) × (length (now memory) ≡ memoryBytes) × (rb < 8) × (rd < 8) ⌝ }
     ensures { λ r. ⌜ Leads (now (regs .exit)) r (now (memory .entry)) (ldrOf offset rb rd (held (now (regs .entry)) k) (now (memory .entry))) ⌝ }
 {
     let a = effective_address(regs[rb as usize], 4 * (offset as u16));
@@ -166,7 +165,7 @@ pub(crate) fn ldrb(
     rb: u8,
     rd: u8,
 ) -> Control
-    requires { ⌜ Whole (now regs) × (length (now memory) ≡ memorySize) × (rb < 8) × (rd < 8) ⌝ }
+    requires { ⌜ Whole (now regs) × (length (now memory) ≡ memoryBytes) × (rb < 8) × (rd < 8) ⌝ }
     ensures { λ r. ⌜ Holds (now (regs .exit)) r (ldrbOf offset rb rd (held (now (regs .entry)) k) (now (memory .entry))) ⌝ }
 {
     let a = effective_address(regs[rb as usize], offset as u16);
@@ -212,7 +211,7 @@ pub(crate) fn str(
     rb: u8,
     rd: u8,
 ) -> Executed
-    requires { ⌜ Whole (now regs) × (length (now memory) ≡ memorySize) × (rb < 8) × (rd < 8) ⌝ }
+    requires { ⌜ Whole (now regs) × (length (now memory) ≡ memoryBytes) × (rb < 8) × (rd < 8) ⌝ }
     ensures { λ r. ⌜ Leads (now (regs .entry)) r (now (memory .exit)) (strOf offset rb rd (held (now (regs .entry)) k) (now (memory .entry))) ⌝ }
 {
     let a = effective_address(regs[rb as usize], 4 * (offset as u16));
@@ -233,7 +232,7 @@ pub(crate) fn strb(
     rb: u8,
     rd: u8,
 ) -> Executed
-    requires { ⌜ Whole (now regs) × (length (now memory) ≡ memorySize) × (rb < 8) × (rd < 8) ⌝ }
+    requires { ⌜ Whole (now regs) × (length (now memory) ≡ memoryBytes) × (rb < 8) × (rd < 8) ⌝ }
     ensures { λ r. ⌜ Leads (now (regs .entry)) r (now (memory .exit)) (strbOf offset rb rd (held (now (regs .entry)) k) (now (memory .entry))) ⌝ }
 {
     let a = effective_address(regs[rb as usize], offset as u16);

@@ -4,9 +4,6 @@ ghost use Prim.Native.Nat.{_+_, _<_};
 ghost use lib.ListN.{length};
 ghost use Rattle.cpu.specs.Memory.{byteAt, halfwordAt, withByte, withHalfword};
 
-// How many bytes the processor addresses.
-pub const MEMORY_SIZE: usize = 65536;
-
 pub(crate) fn load_byte(memory: &[u8], a: usize) -> u16
     requires { ⌜ a < length (now memory) ⌝ }
     ensures { λ r. ⌜ r ≡ byteAt (now (memory .entry)) a ⌝ }

@@ -4,10 +4,10 @@ use super::held::Control;
 use super::held::assemble;
 use super::held::control_of;
 use super::machine::Machine;
-use super::memory::MEMORY_SIZE;
 use super::outcome::Outcome;
-use super::outcome::wrong_size;
-use isa::Refusal;
+use board::MEMORY_BYTES;
+use board::Refusal;
+use board::refusal_of;
 ghost use mathlib.Core.Path.{_≡_};
 ghost use Rattle.cpu.specs.Run.{runResult, runOf};
 ghost use Rattle.cpu.specs.Held.{held, asRun};
@@ -54,10 +54,10 @@ fn ended(regs: [u16; 16], k: Control, outcome: Outcome, count: u32) -> Ran
 pub fn run(m: Machine, memory: &mut [u8], budget: u32) -> Ran
     ensures { λ r. ⌜ runResult (r .machine) (now (memory .exit)) (r .outcome) (r .count) ≡ runOf budget m (now (memory .entry)) ⌝ }
 {
-    if memory.len() != MEMORY_SIZE {
+    if memory.len() != MEMORY_BYTES {
         return Ran {
             machine: m,
-            outcome: RunOutcome::Refused(wrong_size()),
+            outcome: RunOutcome::Refused(refusal_of(1)),
             count: 0,
         };
     }

@@ -8,13 +8,13 @@ use native.Mathlib.Nat.{le-of-suc-le-suc, not-suc-le-zero}
 use native.Mathlib.Omega.{arith}
 use borrow.Author.Tests.{eq-eqb}
 use lib.ListN.{length}
-use Rattle.isa.specs.declared.refusal.Refusal.{Refusal}
+use Rattle.board.specs.Address.{memoryBytes}
+use Rattle.board.specs.declared.refusal.Refusal.{Refusal}
 use Rattle.cpu.specs.declared.machine.Machine.{Machine}
 use Rattle.cpu.specs.declared.outcome.Outcome.{Outcome}
 use Rattle.cpu.specs.declared.outcome.Outcome.the-variants.{Completed, Halted, Stopped, Refused}
 use Rattle.cpu.specs.declared.runner.RunOutcome.{RunOutcome}
 use Rattle.cpu.specs.declared.runner.RunOutcome.the-variants as run
-use Rattle.cpu.specs.Memory.{memorySize}
 use Rattle.cpu.specs.Step.{State, stepOf}
 use Rattle.cpu.specs.Run.{RunResult, nextState, stateAfter, goOn, runFrom, runOf}
 use Rattle.cpu_laws.proofs.Steps.{state, step-whole}
@@ -117,13 +117,13 @@ from (suc budget) count s =
     turn budget count s (outcomeAt s) (runFrom budget (count + 1) (nextState s)) refl (from budget (count + 1) (nextState s))
 
 -- the course of a run with a memory of the right size takes as many steps as the run counts
-pub run-course : (budget : ℕ) (m : Machine) (memory : List ℕ) → length memory ≡ memorySize
+pub run-course : (budget : ℕ) (m : Machine) (memory : List ℕ) → length memory ≡ memoryBytes
     → Course budget (state m memory) (runOf budget m memory) (runOf budget m memory .count)
 unfolding Found runOf
 run-course budget m memory right =
     let found = from budget 0 (state m memory) in
     let n : found .0 ≡ runFrom budget 0 (state m memory) .count = omega (arith, found .1) in
-    simp (eq-eqb (length memory) memorySize right) (subst (λ (steps : ℕ). Course budget (state m memory) (runFrom budget 0 (state m memory)) steps) n (found .2))
+    simp (eq-eqb (length memory) memoryBytes right) (subst (λ (steps : ℕ). Course budget (state m memory) (runFrom budget 0 (state m memory)) steps) n (found .2))
 
 -- what holds at the start, and after each step that completes from where it holds, holds at every state of the course
 module _ (P : State → Type 0) (kept : (s : State) → P s → outcomeAt s ≡ Completed → P (nextState s)) where
@@ -133,13 +133,13 @@ module _ (P : State → Type 0) (kept : (s : State) → P s → outcomeAt s ≡ 
   course-keeps budget s r steps course start (suc k) l =
       kept (stateAfter k s) (course-keeps budget s r steps course start k (omega arith)) (course .completed k l)
 
-  pub run-keeps : (budget : ℕ) (m : Machine) (memory : List ℕ) → length memory ≡ memorySize → P (state m memory)
+  pub run-keeps : (budget : ℕ) (m : Machine) (memory : List ℕ) → length memory ≡ memoryBytes → P (state m memory)
       → (k : ℕ) → k ≤ runOf budget m memory .count → P (stateAfter k (state m memory))
   run-keeps budget m memory right start =
       course-keeps budget (state m memory) (runOf budget m memory) (runOf budget m memory .count) (run-course budget m memory right) start
 
   -- the last state among them
-  pub run-ends-in : (budget : ℕ) (m : Machine) (memory : List ℕ) → length memory ≡ memorySize → P (state m memory) → P (runOf budget m memory .state)
+  pub run-ends-in : (budget : ℕ) (m : Machine) (memory : List ℕ) → length memory ≡ memoryBytes → P (state m memory) → P (runOf budget m memory .state)
   run-ends-in budget m memory right start =
       let course = run-course budget m memory right in
       subst⁻¹ (λ (s : State). P s) (course .last) (run-keeps budget m memory right start (runOf budget m memory .count) (omega arith))

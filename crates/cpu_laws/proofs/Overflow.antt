@@ -1,11 +1,11 @@
 -- V says that a signed result doesn't fit: a signed number is told by itself plus 32,768, so that there is no need of negative numbers.
 use mathlib.Core.Bool.{Bool, true, false, not, _&&_}
-use mathlib.Core.Path.{_≡_, refl, sym, _∙_}
+use mathlib.Core.Path.{_≡_, refl}
 use Prim.Native.Nat.{ℕ, _+_, _<_, _≤_}
 use native.Mathlib.Omega.{arith}
 use lib.Dec.{leb, ltb}
 use borrow.Author.Tests.{leb-true, leb-false, le-leb, lt-leb, lt-ltb, le-ltb}
-use Rattle.isa.specs.Address.{wrap}
+use Rattle.board.specs.Address.{wrap}
 use Rattle.cpu.specs.Alu.{negative, sumOf, sumFlags, differenceOf, differenceFlags}
 
 -- the signed number x, plus 32,768

@@ -8,8 +8,8 @@ use native.Mathlib.Omega.{arith}
 use lib.Bits.{bitAnd, bitXor, and-le-l, xor-lt}
 use lib.Dec.{eqb, ltb}
 use lib.ListN.{length, getD, set, length-set}
-use Rattle.isa.specs.Refusal.{refusal}
-use Rattle.isa.specs.Address.{branchTargetOf}
+use Rattle.board.specs.Refusal.{refusal}
+use Rattle.board.specs.Address.{branchTargetOf, memoryBytes}
 use Rattle.isa.specs.declared.decoder.Decoded.{Decoded}
 use Rattle.isa.specs.declared.decoder.Decoded.the-variants.{Defined, Undefined}
 use Rattle.isa.specs.declared.instruction.Instruction.{Instruction}
@@ -17,7 +17,7 @@ use Rattle.isa.specs.declared.instruction.Instruction.the-variants.{MovImm, Cmp
 use Rattle.cpu.specs.declared.machine.Machine.{Machine}
 use Rattle.cpu.specs.declared.outcome.Outcome.the-variants.{Refused}
 use Rattle.cpu.specs.Machine.{reg, pc, flags, machine, advanced, written}
-use Rattle.cpu.specs.Memory.{memorySize, byteAt, halfwordAt, withByte, withHalfword}
+use Rattle.cpu.specs.Memory.{byteAt, halfwordAt, withByte, withHalfword}
 use Rattle.cpu.specs.Alu.{negative, shiftedOf, shiftOf, conditionOf}
 use Rattle.cpu.specs.Step.{State, StepResult, stepResult, completed, stopped, effectiveAddress, aligned, addHighOf, addPcOf, andOf, asrOf, branchOf, cmpImmOf, cmpOf, cmpHighOf, eorOf, ldrOf, ldrbOf, movImmOf, movHighOf, negOf, strOf, strbOf, tstOf, executeOf, executeDecoded, fetched, fetchAndExecute, stepOf}
 use Rattle.cpu.specs.Run.{nextState, stateAfter}
@@ -45,7 +45,7 @@ Registers regs = Row 16 65536 regs
 
 -- all of memory
 abbrev pub Bytes : List ℕ → Type 0
-Bytes memory = Row memorySize 256 memory
+Bytes memory = Row memoryBytes 256 memory
 
 pub record Sized (s : State) : Type 0 where
   pub registers : Registers (s .machine .regs)
@@ -149,7 +149,7 @@ module _ (m : Machine) (memory : List ℕ) (r : Registers (m .regs)) (b : Bytes 
   result-sized : Kept (stepOf m memory)
   unfolding stepOf fetchAndExecute
   result-sized =
-      cond-keeps Kept (eqb (length memory) memorySize) (fetchAndExecute m memory) (stepResult m memory (Refused (refusal 1)))
+      cond-keeps Kept (eqb (length memory) memoryBytes) (fetchAndExecute m memory) (stepResult m memory (Refused (refusal 1)))
       (cond-keeps Kept (eqb (pc m % 2) 0) (executeDecoded (fetched m memory) m memory) (stopped 18 m memory)
       (decoded-sized (fetched m memory) refl) unchanged)
       unchanged

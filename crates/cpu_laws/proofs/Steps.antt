@@ -6,7 +6,8 @@ use mathlib.Core.Path.{_≡_, refl}
 use Prim.Native.Nat.{ℕ, _*_, _%_}
 use lib.Dec.{eqb}
 use lib.ListN.{length}
-use Rattle.isa.specs.Refusal.{refusal}
+use Rattle.board.specs.Address.{memoryBytes}
+use Rattle.board.specs.Refusal.{refusal}
 use Rattle.isa.specs.declared.decoder.Decoded.{Decoded}
 use Rattle.isa.specs.declared.decoder.Decoded.the-variants.{Defined, Undefined}
 use Rattle.isa.specs.declared.instruction.Instruction.{Instruction}
@@ -14,7 +15,7 @@ use Rattle.isa.specs.declared.instruction.Instruction.the-variants.{MovImm, Cmp
 use Rattle.cpu.specs.declared.machine.Machine.{Machine}
 use Rattle.cpu.specs.declared.outcome.Outcome.the-variants.{Completed, Refused}
 use Rattle.cpu.specs.Machine.{pc, flags, machine, advanced, written, reg}
-use Rattle.cpu.specs.Memory.{memorySize, halfwordAt, withHalfword}
+use Rattle.cpu.specs.Memory.{halfwordAt, withHalfword}
 use Rattle.cpu.specs.Step.{State, StepResult, stepResult, completed, stopped, effectiveAddress, aligned, ldrOf, strOf, strbOf, executeOf, executeDecoded, fetched, fetchAndExecute, stepOf}
 
 -- what holds of both arms of a test holds of the test's
@@ -62,7 +63,7 @@ decoded-whole Undefined m memory = inr refl
 pub step-whole : (m : Machine) (memory : List ℕ) → (stepOf m memory .outcome ≡ Completed) ⊎ (stepOf m memory .state ≡ state m memory)
 unfolding stepOf fetchAndExecute
 step-whole m memory =
-    cond-keeps (Whole m memory) (eqb (length memory) memorySize) (fetchAndExecute m memory) (stepResult m memory (Refused (refusal 1)))
+    cond-keeps (Whole m memory) (eqb (length memory) memoryBytes) (fetchAndExecute m memory) (stepResult m memory (Refused (refusal 1)))
     (cond-keeps (Whole m memory) (eqb (pc m % 2) 0) (executeDecoded (fetched m memory) m memory) (stopped 18 m memory)
     (decoded-whole (fetched m memory) m memory) (inr refl))
     (inr refl)

@@ -7,7 +7,8 @@ use native.Mathlib.Omega.{arith}
 use borrow.Author.Tests.{leb-true, eqb-true}
 use lib.Dec.{eqb, leb}
 use lib.ListN.{length, getD}
-use Rattle.image.specs.Format.{blockBytes, blockCode, mostBytes, mostCode, memoryBytes}
+use Rattle.board.specs.Address.{memoryBytes}
+use Rattle.image.specs.Format.{blockBytes, blockCode, mostBytes, mostCode}
 use Rattle.image.specs.Block.{blocksIn, blockOf, usedOf}
 use Rattle.image.specs.Code.{codePosition, codeAt, codeLength, codeOf}
 use Rattle.image.specs.Check.{whole, firstNo, check8, blockChecks, checksBelow, checksOf, layoutOf, layoutFits, checkedAs, checkOf}

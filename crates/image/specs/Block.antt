@@ -4,7 +4,7 @@ use mathlib.Core.List.{List}
 use Prim.Native.Nat.{ℕ, zero, suc, _+_, _*_, _/_, _%_}
 use lib.Dec.{eqb}
 use lib.ListN.{length, getD, take, drop}
-use Rattle.isa.specs.Address.{wrap}
+use Rattle.board.specs.Address.{wrap}
 use Rattle.image.specs.Format.{blockBytes, blockHalfwords, headerHalfwords}
 
 -- the halfword at byte p of some bytes, low byte first

@@ -34,10 +34,6 @@ mostBytes = blockBytes * mostBlocks
 abbrev pub mostCode : ℕ
 mostCode = 15936
 
--- the bytes of the machine's memory, and the values of a halfword
-abbrev pub memoryBytes : ℕ
-memoryBytes = 65536
-
 -- f i, f (i + 1), ..: n values
 unfoldable pub tabulateFrom : (ℕ → ℕ) → ℕ → ℕ → List ℕ
 tabulateFrom f i zero = []

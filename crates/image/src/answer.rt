@@ -1,23 +1,13 @@
 // The answer of a row of checks.
-use isa::Place;
-use isa::Refusal;
+use board::Place;
+use board::Refusal;
 ghost use mathlib.Core.Path.{_≡_};
-ghost use Rattle.isa.specs.Refusal.{refusal, refusalInBlock};
+ghost use Rattle.board.specs.Refusal.{refusalInBlock};
 
 // What a row of checks comes to: all passed, or the first that failed.
 pub enum Answer {
     Pass,
     Refused(Refusal),
-}
-
-// The refusal of a check that has no place.
-pub(crate) fn refusal_of(number: u8) -> Refusal
-    ensures { λ r. ⌜ r ≡ refusal number ⌝ }
-{
-    Refusal {
-        number,
-        place: Place::Nowhere,
-    }
 }
 
 // The refusal of a check of block `k`.

@@ -1,7 +1,6 @@
 // The check of a file: questions 2 to 8, in order, and the first no.
 use super::answer::Answer;
 use super::answer::refusal_in_block;
-use super::answer::refusal_of;
 use super::block::block_part;
 use super::block::block_sum;
 use super::block::field;
@@ -9,9 +8,10 @@ use super::format::BLOCK_BYTES;
 use super::format::BLOCK_CODE;
 use super::format::HEADER_HALFWORDS;
 use super::format::MARK;
-use super::format::MEMORY_BYTES;
 use super::format::MOST_BYTES;
-use isa::Refusal;
+use board::MEMORY_BYTES;
+use board::Refusal;
+use board::refusal_of;
 ghost use mathlib.Core.List.{[], _∷_};
 ghost use mathlib.Core.Path.{_≡_};
 ghost use Prim.Native.Nat.{_-_, _<_, _≤_};
@@ -134,7 +134,7 @@ pub fn is_window(c: u16, w: u16, l: u16) -> bool
     if w < c {
         return false;
     }
-    (w as u32) + (l as u32) <= MEMORY_BYTES
+    (w as usize) + (l as usize) <= MEMORY_BYTES
 }
 
 // Checks 3 to 7 of block `k`, of so many blocks.

@@ -3,7 +3,7 @@ use super::block::halfword_at;
 use super::format::BLOCK_BYTES;
 use super::format::BLOCK_CODE;
 use super::format::HEADER_BYTES;
-use isa::InstructionIndex;
+use board::InstructionIndex;
 ghost use mathlib.Core.Path.{_≡_};
 ghost use Prim.Native.Nat.{_+_, _≤_};
 ghost use lib.ListN.{length};

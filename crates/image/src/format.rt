@@ -23,6 +23,3 @@ pub const MOST_BLOCKS: usize = 64;
 pub const MOST_BYTES: usize = BLOCK_BYTES * MOST_BLOCKS;
 
 pub const MOST_CODE: usize = 15936;
-
-// The bytes of the machine's memory.
-pub const MEMORY_BYTES: u32 = 65536;

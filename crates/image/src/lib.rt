@@ -15,6 +15,7 @@ pub use code::code_at;
 pub use format::BLOCK_BYTES;
 pub use format::BLOCK_CODE;
 pub use format::BLOCK_HALFWORDS;
+pub use format::HEADER_BYTES;
 pub use format::HEADER_HALFWORDS;
 pub use format::MARK;
 pub use format::MOST_CODE;

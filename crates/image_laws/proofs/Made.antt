@@ -10,7 +10,7 @@ use borrow.Author.Tests.{eq-eqb, ne-eqb, le-leb, le-ltb}
 use lib.Dec.{eqb}
 use lib.ListN.{length, getD, List·getD-eq-default}
 use lib.Seq.{ext-getD}
-use Rattle.isa.specs.Address.{wrap}
+use Rattle.board.specs.Address.{wrap}
 use Rattle.image.specs.Format.{blockHalfwords, blockCode, headerHalfwords, mostCode}
 use Rattle.image.specs.Block.{halfwordAt, blocksIn, blockOf, halfword, usedOf, codeHalfword, sumBelow, sumOf}
 use Rattle.image.specs.Code.{codeAt, codeLength, codeOf}

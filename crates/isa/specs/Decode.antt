@@ -1,10 +1,9 @@
 -- What each halfword says ("Encodings"). A format has a table, in which an entry's place is the number of its operation.
 use mathlib.Core.Bool.{Bool, cond}
 use mathlib.Core.List.{List, [], _∷_}
-use Prim.Native.Nat.{ℕ, zero, suc, _+_, _*_}
+use Prim.Native.Nat.{ℕ, zero, suc}
 use lib.Dec.{ltb, eqb}
-use Rattle.isa.specs.Field.{field}
-use Rattle.isa.specs.declared.instruction.Instruction.{Instruction}
+use Rattle.board.specs.Field.{field, highRs, highRd}
 use Rattle.isa.specs.declared.instruction.Instruction.the-variants.{MovImm, CmpImm, And, Eor, Asr, Tst, Neg, Cmp, AddHigh, CmpHigh, MovHigh, Str, Ldr, Strb, Ldrb, AddPc, Branch, Halt}
 use Rattle.isa.specs.declared.decoder.Decoded.{Decoded}
 use Rattle.isa.specs.declared.decoder.Decoded.the-variants.{Defined, Undefined}
@@ -47,14 +46,8 @@ aluTable h =
 abbrev pub aluOf : ℕ → Decoded
 aluOf h = entry (aluTable h) (field h 6 4)
 
--- 010001 op:2 H1:1 H2:1 Rs:3 Rd:3, where H1 adds 8 to Rd and H2 adds 8 to Rs
-abbrev pub highRs : ℕ → ℕ
-highRs h = field h 6 1 * 8 + field h 3 3
-
-abbrev pub highRd : ℕ → ℕ
-highRd h = field h 7 1 * 8 + field h 0 3
-
--- a comparison of two low registers has a format of its own, and none here
+-- 010001 op:2 H1:1 H2:1 Rs:3 Rd:3, where H1 adds 8 to Rd and H2 adds 8 to Rs; a comparison of two low registers has a
+-- format of its own, and none here
 abbrev pub highTable : ℕ → List Decoded
 highTable h =
     Defined (AddHigh (highRs h) (highRd h))

@@ -1,11 +1,11 @@
 // From an instruction to its halfword. Each format is put together in one
 // function, which refuses a field that its bits can't hold.
 use super::instruction::Instruction;
-use super::refusal::Place;
-use super::refusal::Refusal;
+use board::Refusal;
+use board::refusal_of;
 ghost use mathlib.Core.Path.{_≡_};
 ghost use Prim.Native.Nat.{_<_};
-ghost use Rattle.isa.specs.Refusal.{refusal};
+ghost use Rattle.board.specs.Refusal.{refusal};
 ghost use Rattle.isa.specs.Encode.{encodeOf, immForm, aluForm, highForm, memoryForm, addPcForm, branchForm};
 
 // An instruction's halfword, or check 17's refusal.
@@ -18,10 +18,7 @@ pub enum Encoded {
 fn no_instruction() -> Encoded
     ensures { λ r. ⌜ r ≡ Encoded.Refused (refusal 17) ⌝ }
 {
-    Encoded::Refused(Refusal {
-        number: 17,
-        place: Place::Nowhere,
-    })
+    Encoded::Refused(refusal_of(17))
 }
 
 fn imm_form(op: u16, rd: u8, imm: u8) -> Encoded

@@ -1,10 +1,10 @@
 -- The claims of specs/Claims, proved.
 use mathlib.Core.Path.{_≡_, refl, ap, subst}
 use mathlib.Core.Bool.{Bool, false}
-use Prim.Native.Nat.{ℕ, _*_, _/_, _%_}
+use Prim.Native.Nat.{ℕ}
 use native.Mathlib.Omega.{arith}
 use lib.Dec.{T, eqb, eqb→eq}
-use Rattle.isa.specs.declared.address.InstructionIndex.{InstructionIndex}
+use Rattle.board.specs.declared.address.InstructionIndex.{InstructionIndex}
 use Rattle.isa.specs.declared.encoder.Encoded.{Encoded}
 use Rattle.isa.specs.declared.encoder.Encoded.the-variants.{Halfword, Refused}
 use Rattle.isa.specs.Encode.{encodeOf}

@@ -3,7 +3,7 @@ use mathlib.Core.Path.{_≡_, refl}
 use Rattle.isa.specs.declared.instruction.Instruction.the-variants.{CmpHigh, Halt}
 use Rattle.isa.specs.declared.decoder.Decoded.the-variants.{Defined, Undefined}
 use Rattle.isa.specs.declared.encoder.Encoded.the-variants.{Refused}
-use Rattle.isa.specs.Refusal.{refusal}
+use Rattle.board.specs.Refusal.{refusal}
 use Rattle.isa.specs.Decode.{decodeOf}
 use Rattle.isa.specs.Encode.{encodeOf}
 

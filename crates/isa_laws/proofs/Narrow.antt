@@ -8,8 +8,8 @@ use Rattle.isa.specs.declared.decoder.Decoded.{Decoded}
 use Rattle.isa.specs.declared.decoder.Decoded.the-variants.{Defined, Undefined}
 use Rattle.isa.specs.declared.instruction.Instruction.{Instruction}
 use Rattle.isa.specs.declared.instruction.Instruction.the-variants.{MovImm, CmpImm, And, Eor, Asr, Tst, Neg, Cmp, AddHigh, CmpHigh, MovHigh, Str, Ldr, Strb, Ldrb, AddPc, Branch, Halt}
-use Rattle.isa.specs.Field.{field}
-use Rattle.isa.specs.Decode.{highRs, highRd, entry, only, decodeOf, immOf, immTable, aluOf, aluTable, highOf, highTable, registersTable, memoryOf, memoryTable, branchOf, table}
+use Rattle.board.specs.Field.{field, highRs, highRd}
+use Rattle.isa.specs.Decode.{entry, only, decodeOf, immOf, immTable, aluOf, aluTable, highOf, highTable, registersTable, memoryOf, memoryTable, branchOf, table}
 use lib.Dec.{eqb, ltb}
 
 -- the fields of an instruction hold no more than their bits can: R0 to R7 but in the format for high registers

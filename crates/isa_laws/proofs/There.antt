@@ -1,21 +1,20 @@
 -- The halfword that an instruction encodes to decodes to that instruction.
 use mathlib.Core.Bool.{Bool, true, false}
-use mathlib.Core.Path.{_≡_, refl, sym, ap, subst, _∙_}
-use Prim.Native.Nat.{ℕ, _+_, _*_, _/_, _%_, _^_, _<_, _≤_, max}
-use mathlib.Core.List.{List, [], _∷_}
+use mathlib.Core.Path.{_≡_, refl, _∙_}
+use Prim.Native.Nat.{ℕ, _+_, _*_, _/_, _%_, _<_, max}
+use mathlib.Core.List.{[], _∷_}
 use native.Mathlib.Omega.{arith}
-use borrow.Author.Tests.{lt-ltb, eqb-true, ltb-true}
-use lib.Dec.{eqb, ltb, lit<}
+use borrow.Author.Tests.{lt-ltb, ltb-true}
+use lib.Dec.{ltb, lit<}
 use Rattle.isa.specs.declared.instruction.Instruction.{Instruction}
 use Rattle.isa.specs.declared.instruction.Instruction.the-variants.{Halt, MovImm, CmpImm, And, Eor, Asr, Tst, Neg, Cmp, AddHigh, CmpHigh, MovHigh, Str, Ldr, Strb, Ldrb, AddPc, Branch}
-use Rattle.isa.specs.declared.decoder.Decoded.{Decoded}
-use Rattle.isa.specs.declared.decoder.Decoded.the-variants.{Defined, Undefined}
+use Rattle.isa.specs.declared.decoder.Decoded.the-variants.{Defined}
 use Rattle.isa.specs.declared.encoder.Encoded.{Encoded}
 use Rattle.isa.specs.declared.encoder.Encoded.the-variants.{Halfword, Refused}
-use Rattle.isa.specs.Field.{field}
-use Rattle.isa.specs.Decode.{decodeOf, haltOf, immOf, immTable, aluOf, aluTable, highOf, highTable, registersOf, memoryOf, memoryTable, addPcOf, branchOf, highRs, highRd, entry, only}
-use Rattle.isa.specs.Refusal.{refusal}
-use Rattle.isa.specs.Encode.{encodeOf, immForm, aluForm, highForm, memoryForm, addPcForm, branchForm, given}
+use Rattle.board.specs.Field.{field}
+use Rattle.isa.specs.Decode.{decodeOf, entry, only}
+use Rattle.board.specs.Refusal.{refusal}
+use Rattle.isa.specs.Encode.{encodeOf, immForm, aluForm, highForm, memoryForm, given}
 
 abbrev pub There : Instruction → Encoded → Type 0
 There i (Halfword h) = decodeOf h ≡ Defined i

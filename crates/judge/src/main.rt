@@ -2,13 +2,11 @@
 // bytes and the window's start and length, or `refused` with the number of the
 // first check that failed and its place. A read that fails is told on standard
 // error, and nothing is judged.
+use board::Refusal;
 use image::Layout;
-use isa::Place;
-use isa::Refusal;
 use libc::STDIN_FILENO;
 use libc::STDOUT_FILENO;
 use verifier::Verdict;
-ghost use Prim.Native.Nat.{_≤_};
 ghost use lib.ListN.{length};
 ghost use Rattle.judge.specs.Input.{within};
 
@@ -47,14 +45,6 @@ fn print_number(n: u16) {
     io::print_decimal(STDOUT_FILENO, n as u64);
 }
 
-fn place_number(p: Place) -> u16 {
-    match p {
-        Place::Nowhere => 0,
-        Place::Block(b) => b as u16,
-        Place::Address(a) => a.0,
-    }
-}
-
 fn print_fit(layout: Layout) {
     io::write_all(STDOUT_FILENO, b"fit");
     print_number(layout.code_bytes);
@@ -67,7 +57,7 @@ fn print_refused(r: Refusal) {
     let place = r.place;
     io::write_all(STDOUT_FILENO, b"refused");
     print_number(r.number as u16);
-    print_number(place_number(place));
+    print_number(board::place_number(place));
     io::write_all(STDOUT_FILENO, b"\n");
 }
 

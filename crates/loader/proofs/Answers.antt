@@ -1,13 +1,12 @@
 -- The loader's three answers, each with the memory that it leaves.
 use mathlib.Core.List.{List}
-use mathlib.Core.Path.{_≡_, refl, sym, ap, _∙_}
+use mathlib.Core.Path.{_≡_, refl}
 use Prim.Native.Nat.{ℕ}
 use borrow.Author.Tests.{eq-eqb, ne-eqb}
-use lib.Dec.{eqb}
 use lib.ListN.{length}
-use Rattle.isa.specs.Refusal.{refusal}
-use Rattle.isa.specs.declared.refusal.Refusal.{Refusal}
-use Rattle.image.specs.Format.{memoryBytes}
+use Rattle.board.specs.Address.{memoryBytes}
+use Rattle.board.specs.Refusal.{refusal}
+use Rattle.board.specs.declared.refusal.Refusal.{Refusal}
 use Rattle.image.specs.declared.checker.Layout.{Layout}
 use Rattle.verifier.specs.Verify.{verifyOf}
 use Rattle.verifier.specs.declared.verifier.Verdict.the-variants as verdict
@@ -19,9 +18,9 @@ use Rattle.loader.specs.declared.loader.Loaded.the-variants.{Done, Refus
 abbrev pub Answers : List ℕ → List ℕ → Loaded → List ℕ → Type 0
 Answers file memory answer after = (answer ≡ loadOf file memory) × (after ≡ memoryAfterLoad file memory)
 
-pub wrong-size : (file memory : List ℕ) → (length memory ≡ memoryBytes → ⊥) → Answers file memory (Refused (refusal 1)) memory
+pub wrong-size : (file memory : List ℕ) (r : Refusal) → (length memory ≡ memoryBytes → ⊥) → r ≡ refusal 1 → Answers file memory (Refused r) memory
 unfolding loadOf memoryAfterLoad
-wrong-size file memory h = simp (ne-eqb _ _ h) (refl, refl)
+wrong-size file memory r h is = simp (ne-eqb _ _ h, is) (refl, refl)
 
 pub unfit : (file memory : List ℕ) (r : Refusal) → length memory ≡ memoryBytes → verifyOf file ≡ verdict.Refused r → Answers file memory (Refused r) memory
 unfolding loadOf memoryAfterLoad

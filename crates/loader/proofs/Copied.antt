@@ -1,10 +1,9 @@
 -- Memory with code copied to its start, and with a part of it cleared.
-use mathlib.Core.List.{List, [], _∷_, _++_}
-use mathlib.Core.Path.{_≡_, refl, sym, ap, _∙_}
-use Prim.Native.Nat.{ℕ, zero, suc, _+_, _-_, _*_, _/_, _%_, _≤_, _<_}
+use mathlib.Core.List.{List}
+use mathlib.Core.Path.{_≡_, refl}
+use Prim.Native.Nat.{ℕ, zero, suc, _+_, _*_}
 use native.Mathlib.Numerals.{add-one}
-use native.Mathlib.Omega.{arith}
-use lib.ListN.{length, set, take, drop, replicate, length-set}
+use lib.ListN.{length, length-set}
 use Rattle.image.specs.Code.{codeAt}
 use Rattle.loader.specs.Copy.{withHalfword, withCode}
 

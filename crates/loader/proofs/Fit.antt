@@ -1,13 +1,13 @@
 -- What the loader needs of a fit file: its code lies in the file, and code and window lie in memory.
 use mathlib.Core.List.{List}
-use mathlib.Core.Path.{_≡_, sym, ap, _∙_}
+use mathlib.Core.Path.{_≡_}
 use Prim.Native.Nat.{ℕ, _+_, _*_, _/_, _≤_, _<_}
 use native.Mathlib.Omega.{arith}
-use lib.ListN.{length, getD}
-use Rattle.image.proofs.Valid.{code-halfword, valid-window, valid-code, valid-code-bytes, code-in-file}
+use lib.ListN.{length}
+use Rattle.board.specs.Address.{memoryBytes}
+use Rattle.image.proofs.Valid.{code-halfword, valid-window, valid-code-bytes, code-in-file}
 use Rattle.image.specs.Check.{checkOf}
 use Rattle.image.specs.Code.{codePosition, codeOf}
-use Rattle.image.specs.Format.{memoryBytes}
 use Rattle.image.specs.declared.checker.Checked.the-variants.{Valid}
 use Rattle.image.specs.declared.checker.Layout.{Layout}
 use Rattle.verifier.specs.Verify.{verifyOf}

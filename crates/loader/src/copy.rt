@@ -1,5 +1,5 @@
 // What a load does to memory.
-use isa::InstructionIndex;
+use board::InstructionIndex;
 ghost use mathlib.Core.Path.{_≡_};
 ghost use Prim.Native.Nat.{ℕ, _+_, _*_, _≤_, _<_};
 ghost use lib.ListN.{length, replicate};

@@ -1,17 +1,16 @@
 // The load of a program: checks first, then memory.
 use super::copy::clear_window;
 use super::copy::copy_code;
+use board::MEMORY_BYTES;
+use board::Refusal;
+use board::refusal_of;
 use image::Layout;
-use isa::Place;
-use isa::Refusal;
 use verifier::Verdict;
 ghost use mathlib.Core.Path.{_≡_};
 ghost use lib.ListN.{length};
-ghost use Rattle.image.specs.Format.{memoryBytes};
+ghost use Rattle.board.specs.Address.{memoryBytes};
 ghost use Rattle.verifier.specs.Verify.{verifyOf};
 ghost use Rattle.loader.specs.Load.{loadOf, memoryAfterLoad, loadedMemory};
-
-const MEMORY_BYTES: usize = 65536;
 
 // What became of a load: the layout of the loaded program, or why it was
 // refused.
@@ -39,10 +38,7 @@ pub fn load(file: &[u8], memory: &mut [u8]) -> Loaded
     ensures { λ r. ⌜ (r ≡ loadOf (now (file .entry)) (now (memory .entry))) × (now (memory .exit) ≡ memoryAfterLoad (now (file .entry)) (now (memory .entry))) ⌝ }
 {
     if memory.len() != MEMORY_BYTES {
-        return Loaded::Refused(Refusal {
-            number: 1,
-            place: Place::Nowhere,
-        });
+        return Loaded::Refused(refusal_of(1));
     }
     match verifier::verify(file) {
         Verdict::Refused(refusal) => Loaded::Refused(refusal),

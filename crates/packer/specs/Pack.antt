@@ -4,8 +4,8 @@ use mathlib.Core.List.{List, [], _∷_}
 use Prim.Native.Nat.{ℕ, _+_, _-_, _*_, _/_, _%_, min}
 use lib.Dec.{eqb, leb, ltb}
 use lib.ListN.{length, getD}
-use Rattle.isa.specs.Address.{wrap}
-use Rattle.image.specs.Format.{mark, blockBytes, blockHalfwords, blockCode, headerHalfwords, mostCode, memoryBytes, tabulate}
+use Rattle.board.specs.Address.{wrap}
+use Rattle.image.specs.Format.{mark, blockBytes, blockHalfwords, blockCode, headerHalfwords, mostCode, tabulate}
 use Rattle.image.specs.Block.{byteOf, sumBelow}
 use Rattle.image.specs.Check.{Asked, whole, firstNo, check8}
 use Rattle.image.specs.declared.answer.Answer.{Answer}
@@ -33,7 +33,7 @@ bodyHalfword code w l k j =
 
 -- halfword 255: what makes the sum 0
 unfoldable pub balanceOf : List ℕ → ℕ → ℕ → ℕ → ℕ
-balanceOf code w l k = wrap (memoryBytes - sumBelow (bodyHalfword code w l k) (blockHalfwords - 1))
+balanceOf code w l k = wrap (65536 - sumBelow (bodyHalfword code w l k) (blockHalfwords - 1))
 
 unfoldable pub imageHalfword : List ℕ → ℕ → ℕ → ℕ → ℕ → ℕ
 imageHalfword code w l k j = cond (ltb j (blockHalfwords - 1)) (bodyHalfword code w l k j) (balanceOf code w l k)

@@ -1,15 +1,15 @@
 // The packer: questions 15, 8 and 16, then the image.
 use super::writer::blocks_needed;
 use super::writer::write_image;
+use board::Refusal;
+use board::refusal_of;
 use image::Answer;
 use image::BLOCK_BYTES;
 use image::MOST_CODE;
 use image::is_window;
-use isa::Place;
-use isa::Refusal;
 ghost use mathlib.Core.Path.{_≡_};
 ghost use lib.ListN.{length};
-ghost use Rattle.isa.specs.Refusal.{refusal};
+ghost use Rattle.board.specs.Refusal.{refusal};
 ghost use Rattle.image.specs.Check.{firstNo};
 ghost use Rattle.packer.specs.Pack.{packChecks, packOf, outputOf};
 
@@ -17,16 +17,6 @@ ghost use Rattle.packer.specs.Pack.{packChecks, packOf, outputOf};
 pub enum Packed {
     Done,
     Refused(Refusal),
-}
-
-// The refusal of a check of the packer's: it has no place.
-fn refusal_of(number: u8) -> Refusal
-    ensures { λ r. ⌜ r ≡ refusal number ⌝ }
-{
-    Refusal {
-        number,
-        place: Place::Nowhere,
-    }
 }
 
 // Checks 15, 8 and 16 of an output of `size` bytes.

@@ -1,31 +1,19 @@
 // Answers as numbers.
+use board::Refusal;
 use image::Checked;
 use image::Layout;
-use isa::Place;
-use isa::Refusal;
 use loader::Loaded;
 use packer::Packed;
 use verifier::Verdict;
 ghost use mathlib.Core.Path.{_≡_};
-ghost use Rattle.isa.specs.Refusal.{placeNumber};
 ghost use Rattle.paw.specs.Answers.{refusalWord, layoutWord, checkedWord, verdictWord, loadedWord, packedNumber};
-
-fn place_number(p: Place) -> u16
-    ensures { λ r. ⌜ r ≡ placeNumber p ⌝ }
-{
-    match p {
-        Place::Nowhere => 0,
-        Place::Block(b) => b as u16,
-        Place::Address(a) => a.0,
-    }
-}
 
 // A refusal's number, and its place above it.
 pub(crate) fn refusal_word(r: Refusal) -> u64
     ensures { λ w. ⌜ w ≡ refusalWord r ⌝ }
 {
     let place = r.place;
-    (r.number as u64) + (place_number(place) as u64) * 0x10000
+    (r.number as u64) + (board::place_number(place) as u64) * 0x10000
 }
 
 // The lengths of a program that passed.

@@ -1,37 +1,34 @@
 -- Demand 3, proved.
-use mathlib.Core.Bool.{Bool, true, false, cond}
 use mathlib.Core.List.{List}
-use mathlib.Core.Logic.{_⊎_, inl, inr, ⊎-elim}
-use mathlib.Core.Path.{_≡_, refl, sym, ap, _∙_, subst}
-use Prim.Native.Nat.{ℕ, zero, suc, _+_, _*_, _/_, _%_, _≤_, _<_}
+use mathlib.Core.Logic.{inl, inr, ⊎-elim}
+use mathlib.Core.Path.{_≡_, refl, sym, _∙_, subst}
+use Prim.Native.Nat.{ℕ, _+_, _*_, _/_, _%_, _≤_}
 use native.Mathlib.Omega.{arith}
 use borrow.Author.Tests.{eq-eqb}
-use lib.Dec.{eqb}
 use lib.ListN.{length, getD, getD-replicate}
-use Rattle.isa.specs.declared.decoder.Decoded.the-variants.{Defined}
+use Rattle.board.specs.Address.{memoryBytes}
 use Rattle.image.specs.Block.{byteOf}
 use Rattle.image.specs.Code.{codeOf}
 use Rattle.image.specs.declared.checker.Layout.{Layout}
 use Rattle.domain.specs.Value.{unknownOf}
 use Rattle.domain_laws.proofs.Sound.{unknown-sound}
-use Rattle.verifier.specs.Verify.{verifyOf, entering}
-use Rattle.verifier.specs.declared.verifier.Verdict.the-variants.{Fit}
+use Rattle.verifier.specs.Verify.{entering}
 use Rattle.cpu.specs.declared.machine.Machine.{Machine}
 use Rattle.cpu.specs.declared.outcome.Outcome.{Outcome}
 use Rattle.cpu.specs.declared.outcome.Outcome.the-variants.{Completed, Halted}
 use Rattle.cpu.specs.declared.runner.RunOutcome.{RunOutcome}
 use Rattle.cpu.specs.declared.runner.RunOutcome.the-variants as run
-use Rattle.cpu.specs.Machine.{reg, pc}
-use Rattle.cpu.specs.Memory.{memorySize, byteAt, halfwordAt}
-use Rattle.cpu.specs.Step.{State, StepResult, stepOf}
-use Rattle.cpu.specs.Run.{RunResult, nextState, stateAfter, runFrom, runOf}
+use Rattle.cpu.specs.Machine.{reg}
+use Rattle.cpu.specs.Memory.{byteAt}
+use Rattle.cpu.specs.Step.{State}
+use Rattle.cpu.specs.Run.{nextState, stateAfter, runFrom, runOf}
 use Rattle.loader.specs.Load.{codeByte}
-use Rattle.safety.specs.Safety.{Start, HoldsCode, SafeState, SameWindow, SameResult, SafeRun, Demand3, LoadHolds}
+use Rattle.safety.specs.Safety.{Start, HoldsCode, SafeState, SafeRun, Demand3, LoadHolds}
 use Rattle.safety.proofs.Fitness.{FitCode, fit-code}
 use Rattle.safety.proofs.Invariant.{Inv, HoldsHalfwords, arrive, fetched-is, safe-access, next}
 use Rattle.cpu_laws.proofs.Course.{outcomeAt, EndsAs, run-course, run-keeps}
 use Rattle.safety.proofs.Loads.{was-fit, after-load, loaded-holds}
-use Rattle.safety.proofs.Twins.{Twin, apart, same-runs}
+use Rattle.safety.proofs.Twins.{apart, same-runs}
 
 -- byte by byte is halfword by halfword
 halves : (h lo hi : ℕ) → lo ≡ h % 256 → hi ≡ h / 256 → lo + hi * 256 ≡ h
@@ -49,7 +46,7 @@ holds-halfwords file layout memory size h i hi =
     (h .code (2 * i + 1) (omega (arith, size)) ∙ simp (c, d))
 
 -- with the size of memory right, a run is what its steps make
-run-is : (budget : ℕ) (m : Machine) (memory : List ℕ) → length memory ≡ memorySize → runOf budget m memory ≡ runFrom budget 0 (record { machine = m; memory = memory })
+run-is : (budget : ℕ) (m : Machine) (memory : List ℕ) → length memory ≡ memoryBytes → runOf budget m memory ≡ runFrom budget 0 (record { machine = m; memory = memory })
 unfolding runOf
 run-is budget m memory h = simp (eq-eqb _ _ h)
 

@@ -1,7 +1,5 @@
 -- P is fit, its image is bytes, and zeros are bytes.
-use mathlib.Core.Bool.{Bool}
 use mathlib.Core.List.{List}
-use mathlib.Core.Path.{_≡_, refl}
 use Prim.Native.Nat.{ℕ, _≤_, _<_}
 use native.Mathlib.Decide.{decLt}
 use native.Mathlib.Omega.{arith}
@@ -12,7 +10,6 @@ use Rattle.image.specs.Block.{byteOf, sumBelow}
 use Rattle.image.specs.Format.{tabulateFrom}
 use Rattle.packer.specs.Pack.{bodyHalfword, balanceOf, imageHalfword, imageOf}
 use Rattle.cpu.specs.Memory.{byteAt}
-use Rattle.cpu.specs.Machine.{Flags}
 use Rattle.table_laws.proofs.Table.{starred-rows}
 use Rattle.table_laws.specs.Table.{nzcv}
 use Rattle.safety.specs.Instance.{imageP, layoutP, memoryP, InstanceP}

@@ -1,19 +1,19 @@
 -- A load leaves a memory that holds the code.
 use mathlib.Core.Bool.{Bool, true, false, cond}
 use mathlib.Core.List.{List}
-use mathlib.Core.Path.{_≡_, refl, sym, ap, _∙_}
-use Prim.Native.Nat.{ℕ, _+_, _*_, _/_, _%_, _≤_, _<_}
+use mathlib.Core.Path.{_≡_, refl, ap, _∙_}
+use Prim.Native.Nat.{ℕ, _/_, _%_, _≤_, _<_}
 use native.Mathlib.Decide.{decLt}
 use native.Mathlib.Omega.{arith}
 use borrow.Author.Tests.{lt-ltb, eqb-true}
 use lib.Dec.{eqb, ltb}
 use lib.ListN.{length, getD, List·getD-eq-default}
-use Rattle.isa.specs.Refusal.{refusal}
+use Rattle.board.specs.Address.{memoryBytes}
+use Rattle.board.specs.Refusal.{refusal}
 use Rattle.image.proofs.Lists.{length-tabulate, tabulate-at}
-use Rattle.image.proofs.Valid.{code-length, code-halfword, code-fits}
+use Rattle.image.proofs.Valid.{code-halfword, code-fits}
 use Rattle.image.specs.Block.{byteOf}
-use Rattle.image.specs.Code.{codeAt, codeOf}
-use Rattle.image.specs.Format.{memoryBytes, tabulate}
+use Rattle.image.specs.Code.{codeOf}
 use Rattle.image.specs.declared.checker.Layout.{Layout}
 use Rattle.verifier.specs.Verify.{verifyOf}
 use Rattle.verifier.specs.declared.verifier.Verdict.{Verdict}
@@ -22,7 +22,7 @@ use Rattle.cpu.specs.Memory.{byteAt}
 use Rattle.loader.specs.Load.{codeByte, inWindow, loadedByte, loadedMemory, loadedAs, loadOf, memoryAs, memoryAfterLoad}
 use Rattle.loader.specs.declared.loader.Loaded.{Loaded}
 use Rattle.loader.specs.declared.loader.Loaded.the-variants.{Done, Refused}
-use Rattle.safety.specs.Safety.{HoldsCode, LoadHolds}
+use Rattle.safety.specs.Safety.{HoldsCode}
 
 -- a load that is done had a memory of the right size and a fit file
 pub record WasFit (file memory : List ℕ) (layout : Layout) : Type 0 where

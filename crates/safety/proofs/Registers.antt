@@ -1,13 +1,13 @@
 -- Abstract values and the registers that they speak of.
 use mathlib.Core.Bool.{Bool, true, false, cond}
 use mathlib.Core.List.{List}
-use mathlib.Core.Path.{_≡_, refl, sym, ap, _∙_, subst}
-use Prim.Native.Nat.{ℕ, zero, suc, _+_, _*_, _%_, _≤_, _<_}
+use mathlib.Core.Path.{_≡_, refl, _∙_}
+use Prim.Native.Nat.{ℕ, _+_, _≤_, _<_}
 use native.Mathlib.Decide.{ℕ-discrete}
 use native.Mathlib.Omega.{arith}
-use lib.ListN.{length, getD, set, replicate, length-set, getD-replicate, length-replicate}
+use lib.ListN.{length, getD, set, length-set, getD-replicate}
 use lib.Seq.{getD-set-same, getD-set-other}
-use Rattle.isa.specs.Address.{wrap}
+use Rattle.board.specs.Address.{wrap}
 use Rattle.domain.specs.Value.{unknownOf, exactlyOf}
 use Rattle.domain.specs.declared.value.Value.{Value}
 use Rattle.domain_laws.specs.Holds.{Holds}

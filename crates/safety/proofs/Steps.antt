@@ -2,17 +2,16 @@
 use mathlib.Core.Bool.{Bool, true, false, cond, not}
 use mathlib.Core.List.{List}
 use mathlib.Core.Logic.{_⊎_, inl, inr}
-use mathlib.Core.Path.{_≡_, refl, sym, ap, _∙_, subst}
+use mathlib.Core.Path.{_≡_, refl}
 use Prim.Native.Nat.{ℕ, _+_, _-_, _*_, _/_, _%_, _^_, _≤_, _<_, zero-le}
 use native.Mathlib.Nat.{le-refl, le-trans, zero-add}
 use native.Mathlib.Omega.{arith}
-use borrow.Author.Tests.{eq-eqb, eqb-true, eqb-false, not-true, leb-true, leb-false, lt-leb, ltb-true, ltb-false}
-use lib.Bits.{bitAnd, bitXor, and-lt, xor-lt}
-use lib.Dec.{eqb, leb, ltb}
-use lib.ListN.{length, getD, set}
+use borrow.Author.Tests.{eq-eqb, eqb-false, not-true, lt-leb}
+use lib.Dec.{eqb, ltb}
+use lib.ListN.{length, set}
 use lib.Pow.{shr-le}
-use Rattle.isa.specs.Address.{wrap, branchTargetOf}
-use Rattle.isa.specs.declared.address.ByteAddress.{ByteAddress}
+use Rattle.board.specs.Address.{wrap, branchTargetOf}
+use Rattle.board.specs.declared.address.ByteAddress.{ByteAddress}
 use Rattle.isa.specs.declared.instruction.Instruction.{Instruction}
 use Rattle.isa.specs.declared.instruction.Instruction.the-variants.{MovImm, CmpImm, And, Eor, Asr, Tst, Neg, Cmp, AddHigh, CmpHigh, MovHigh, Str, Ldr, Strb, Ldrb, AddPc, Branch, Halt}
 use Rattle.domain.specs.declared.value.Value.{Value}
@@ -24,11 +23,11 @@ use Rattle.verifier.specs.State.{State, value, transferOf, pcSum}
 use Rattle.verifier.specs.declared.branch.Target.the-variants.{To}
 use Rattle.cpu.specs.declared.machine.Machine.{Machine}
 use Rattle.cpu.specs.Machine.{Flags}
-use Rattle.cpu.specs.declared.outcome.Outcome.the-variants.{Completed, Halted}
+use Rattle.cpu.specs.declared.outcome.Outcome.the-variants.{Completed}
 use Rattle.cpu.specs.Machine.{reg, pc, flags, machine, advanced, written}
 use Rattle.cpu.specs.Memory.{byteAt, halfwordAt}
 use Rattle.cpu.specs.Alu.{negative, shiftOf, shiftedOf, conditionOf}
-use Rattle.cpu.specs.Step.{StepResult, stepResult, completed, effectiveAddress, executeOf, addHighOf, addPcOf, andOf, asrOf, branchOf, cmpImmOf, cmpOf, cmpHighOf, eorOf, ldrOf, ldrbOf, movImmOf, movHighOf, negOf, strOf, strbOf, tstOf}
+use Rattle.cpu.specs.Step.{StepResult, completed, effectiveAddress, executeOf, addHighOf, addPcOf, andOf, asrOf, branchOf, cmpImmOf, cmpOf, cmpHighOf, eorOf, ldrOf, ldrbOf, movImmOf, movHighOf, negOf, strOf, strbOf, tstOf}
 use Rattle.safety.proofs.Registers.{Sized, HoldsBelow, Moved, jumped, on, wrote}
 use Rattle.isa_laws.proofs.Narrow.{Narrow}
 

@@ -1,21 +1,18 @@
 -- Two runs from memories alike in code and window go the same way.
 use mathlib.Core.List.{List}
-use mathlib.Core.Logic.{_⊎_, inl, inr, ⊎-elim}
-use mathlib.Core.Path.{_≡_, refl, sym, ap, _∙_, subst}
-use Prim.Native.Nat.{ℕ, zero, suc, _+_, _*_, _<_}
+use mathlib.Core.Logic.{⊎-elim}
+use mathlib.Core.Path.{_≡_, refl, sym, ap, _∙_}
+use Prim.Native.Nat.{ℕ, zero, suc, _+_}
 use native.Mathlib.Omega.{arith}
-use lib.ListN.{length, getD}
-use Rattle.isa.specs.declared.decoder.Decoded.{Decoded}
+use lib.ListN.{length}
 use Rattle.isa.specs.declared.decoder.Decoded.the-variants.{Defined}
-use Rattle.isa.specs.declared.instruction.Instruction.{Instruction}
 use Rattle.image.specs.declared.checker.Layout.{Layout}
 use Rattle.verifier.specs.Targets.{decodedAt}
-use Rattle.cpu.specs.declared.machine.Machine.{Machine}
 use Rattle.cpu.specs.declared.outcome.Outcome.{Outcome}
 use Rattle.cpu.specs.declared.outcome.Outcome.the-variants.{Completed, Halted}
-use Rattle.cpu.specs.Machine.{reg, pc}
-use Rattle.cpu.specs.Step.{State, StepResult, executeOf, stepOf}
-use Rattle.cpu.specs.Run.{RunResult, nextState, goOn, runFrom}
+use Rattle.cpu.specs.Machine.{pc}
+use Rattle.cpu.specs.Step.{State, stepOf}
+use Rattle.cpu.specs.Run.{nextState, runFrom}
 use Rattle.safety.specs.Safety.{SameWindow, SameResult}
 use Rattle.safety.proofs.Fitness.{FitCode}
 use Rattle.safety.proofs.Invariant.{Inv, HoldsHalfwords, step-is, safe-access, next}

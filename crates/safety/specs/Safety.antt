@@ -4,6 +4,7 @@ use mathlib.Core.Logic.{_⊎_}
 use mathlib.Core.Path.{_≡_}
 use Prim.Native.Nat.{ℕ, _+_, _%_, _≤_, _<_}
 use lib.ListN.{length}
+use Rattle.board.specs.Address.{memoryBytes}
 use Rattle.isa.specs.declared.decoder.Decoded.the-variants.{Defined}
 use Rattle.isa.specs.declared.instruction.Instruction.{Instruction}
 use Rattle.image.specs.declared.checker.Layout.{Layout}
@@ -14,8 +15,8 @@ use Rattle.cpu.specs.declared.machine.Machine.{Machine}
 use Rattle.cpu.specs.declared.outcome.Outcome.the-variants as step
 use Rattle.cpu.specs.declared.runner.RunOutcome.the-variants as run
 use Rattle.cpu.specs.Machine.{reg, pc}
-use Rattle.cpu.specs.Memory.{memorySize, byteAt}
-use Rattle.cpu.specs.Step.{State, StepResult, effectiveAddress, fetched, stepOf}
+use Rattle.cpu.specs.Memory.{byteAt}
+use Rattle.cpu.specs.Step.{State, effectiveAddress, fetched, stepOf}
 use Rattle.cpu.specs.Run.{RunResult, stateAfter, runOf}
 use Rattle.loader.specs.Load.{codeByte, loadOf, memoryAfterLoad}
 use Rattle.loader.specs.declared.loader.Loaded.the-variants.{Done}
@@ -28,7 +29,7 @@ pub record Start (m : Machine) : Type 0 where
 
 -- a memory that holds the code of a file: 65,536 bytes, of which the first c are the code
 pub record HoldsCode (file : List ℕ) (layout : Layout) (memory : List ℕ) : Type 0 where
-  pub size : length memory ≡ memorySize
+  pub size : length memory ≡ memoryBytes
   pub bytes : (a : ℕ) → byteAt memory a < 256
   pub code : (a : ℕ) → a < layout .«code_bytes» → byteAt memory a ≡ codeByte file a
 

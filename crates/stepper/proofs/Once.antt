@@ -5,13 +5,13 @@ use mathlib.Core.List.{List}
 use mathlib.Core.Path.{_≡_, refl, ap, _∙_}
 use lib.Dec.{eqb}
 use lib.ListN.{length}
-use Rattle.isa.specs.Refusal.{refusal}
+use Rattle.board.specs.Address.{memoryBytes}
+use Rattle.board.specs.Refusal.{refusal}
 use Rattle.cpu.specs.declared.machine.Machine.{Machine}
 use Rattle.cpu.specs.declared.outcome.Outcome.{Outcome}
 use Rattle.cpu.specs.declared.outcome.Outcome.the-variants.{Completed, Halted, Stopped, Refused}
 use Rattle.cpu.specs.declared.runner.RunOutcome.{RunOutcome}
 use Rattle.cpu.specs.declared.runner.RunOutcome.the-variants.{Spent}
-use Rattle.cpu.specs.Memory.{memorySize}
 use Rattle.cpu.specs.Step.{State, StepResult, stepResult, stepOf}
 use Rattle.cpu.specs.Run.{RunResult, runResult, goOn, runFrom, runOf}
 use Rattle.stepper.specs.Ends.{asStep}
@@ -26,15 +26,15 @@ after-one Halted s = refl
 after-one (Stopped number) s = refl
 after-one (Refused r) s = refl
 
-wrong : (m : Machine) (memory : List ℕ) → eqb (length memory) memorySize ≡ false → stepResult m memory (Refused (refusal 1)) ≡ stepOf m memory
+wrong : (m : Machine) (memory : List ℕ) → eqb (length memory) memoryBytes ≡ false → stepResult m memory (Refused (refusal 1)) ≡ stepOf m memory
 unfolding stepOf
 wrong m memory e = simp e
 
 one-is-step : (m : Machine) (memory : List ℕ) → asStepResult (runOf 1 m memory) ≡ stepOf m memory
 unfolding runOf runFrom
-one-is-step m memory = go (eqb (length memory) memorySize) refl
+one-is-step m memory = go (eqb (length memory) memoryBytes) refl
   where
-    go : (t : Bool) → eqb (length memory) memorySize ≡ t → asStepResult (runOf 1 m memory) ≡ stepOf m memory
+    go : (t : Bool) → eqb (length memory) memoryBytes ≡ t → asStepResult (runOf 1 m memory) ≡ stepOf m memory
     go true e = simp e (after-one (stepOf m memory .outcome) (stepOf m memory .state))
     go false e = simp e (wrong m memory e)
 

@@ -5,11 +5,11 @@ use mathlib.Core.Path.{_≡_}
 use Prim.Native.Nat.{ℕ}
 use lib.ListN.{replicate}
 use Rattle.isa.specs.Decode.{decodeOf}
-use Rattle.isa.specs.Refusal.{refusalAt}
+use Rattle.board.specs.Refusal.{refusalAt}
 use Rattle.isa.specs.declared.decoder.Decoded.the-variants.{Defined, Undefined}
 use Rattle.isa.specs.declared.instruction.Instruction.the-variants.{CmpImm, Asr, Neg, AddHigh, CmpHigh, Halt}
 use Rattle.cpu.specs.Machine.{reg, flags, machine}
-use Rattle.cpu.specs.Step.{State, StepResult, executeOf, executeDecoded}
+use Rattle.cpu.specs.Step.{StepResult, executeOf, executeDecoded}
 use Rattle.cpu.specs.Machine.{Flags}
 use Rattle.cpu.specs.declared.machine.Machine.{Machine}
 use Rattle.packer.specs.Pack.{imageOf}

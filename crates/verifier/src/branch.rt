@@ -1,5 +1,5 @@
 // Where branches go.
-use isa::ByteAddress;
+use board::ByteAddress;
 ghost use mathlib.Core.Path.{_≡_};
 ghost use Rattle.isa.specs.Decode.{decodeOf};
 ghost use Rattle.verifier.specs.Targets.{jumpAt};
@@ -20,12 +20,12 @@ const LAST_BRANCH: u8 = 0xdd;
 pub(crate) fn jump(a: ByteAddress, h: u16) -> Target
     ensures { λ r. ⌜ r ≡ jumpAt a (decodeOf h) ⌝ }
 {
-    let upper = isa::bits(h, 8, 8);
+    let upper = board::bits(h, 8, 8);
     if upper < FIRST_BRANCH {
         return Target::Nowhere;
     }
     if upper > LAST_BRANCH {
         return Target::Nowhere;
     }
-    Target::To(isa::branch_target(a, isa::bits(h, 0, 8)))
+    Target::To(board::branch_target(a, board::bits(h, 0, 8)))
 }

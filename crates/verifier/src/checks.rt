@@ -1,13 +1,13 @@
 // Checks 10 to 14, each as the number of the check that fails, or 0.
 use super::state::PC;
+use board::ByteAddress;
 use domain::Value;
 use image::Layout;
-use isa::ByteAddress;
 ghost use mathlib.Core.Path.{_≡_};
 ghost use mathlib.Core.Bool.{cond, not};
 ghost use Prim.Native.Nat.{_<_};
 ghost use lib.Dec.{eqb, ltb};
-ghost use Rattle.isa.specs.Address.{branchTargetOf};
+ghost use Rattle.board.specs.Address.{branchTargetOf};
 ghost use Rattle.verifier.specs.Access.{halfwordAccess, byteAccess};
 ghost use Rattle.verifier.specs.State.{pcRegister};
 ghost use Rattle.verifier.specs.Questions.{check10, check11, check14};
@@ -74,6 +74,6 @@ pub(crate) fn check_write(rd: u8) -> u8
 pub(crate) fn check_branch(a: ByteAddress, offset: u8, layout: Layout) -> u8
     ensures { λ r. ⌜ r ≡ cond (ltb (branchTargetOf a offset .0) (layout .«code_bytes»)) 0 13 ⌝ }
 {
-    let target = isa::branch_target(a, offset);
+    let target = board::branch_target(a, offset);
     if target.0 < layout.code_bytes { 0 } else { 13 }
 }

@@ -1,5 +1,7 @@
 // The code of a file by the byte in the file where each halfword stands: a walk
 // goes from one to the next without a division.
+use image::BLOCK_BYTES;
+use image::HEADER_BYTES;
 ghost use mathlib.Core.Path.{_≡_};
 ghost use Prim.Native.Nat.{_+_, _≤_, _<_};
 ghost use lib.ListN.{length};
@@ -7,15 +9,13 @@ ghost use Rattle.image.specs.Block.{halfwordAt};
 ghost use Rattle.verifier.specs.Position.{positionAfter};
 
 // Where the first halfword stands, behind the header of block 0.
-pub const FIRST_POSITION: usize = 12;
+pub const FIRST_POSITION: usize = HEADER_BYTES;
 
-// A block's length, and where in a block its last code halfword stands. The
-// block's sum and the next block's header lie between that and the next one.
-const BLOCK_BYTES: usize = 512;
+// Where in a block its last code halfword stands, and how far from it the next
+// block's first: the block's sum and the next block's header lie between.
+const LAST_IN_BLOCK: usize = BLOCK_BYTES - 4;
 
-const LAST_IN_BLOCK: usize = 508;
-
-const GAP: usize = 16;
+const GAP: usize = 4 + HEADER_BYTES;
 
 // The halfword at byte `p`, low byte first.
 pub(crate) fn halfword_at(file: &[u8], p: usize) -> u16

@@ -8,9 +8,9 @@ use super::checks::check_last;
 use super::checks::check_write;
 use super::state::set_value;
 use super::state::value_at;
+use board::ByteAddress;
 use domain::Value;
 use image::Layout;
-use isa::ByteAddress;
 ghost use mathlib.Core.Path.{_≡_};
 ghost use Prim.Native.Nat.{ℕ};
 ghost use lib.ListN.{length};
@@ -34,10 +34,10 @@ fn visit_halt(h: u16) -> u8
 fn visit_imm(state: &mut [u64; 16], h: u16) -> u8
     ensures { λ r. ⌜ ((s : State) (layout : Layout) (a : ByteAddress) → r ≡ numberOf s layout a (immOf h)) × ((n : ℕ) → stateOf (now (state .exit)) ≡ afterOf n (immOf h) (stateOf (now (state .entry)))) ⌝ }
 {
-    match isa::bits(h, 11, 2) {
+    match board::bits(h, 11, 2) {
         0 => {
-            let imm = isa::bits(h, 0, 8) as u16;
-            set_value(state, isa::bits(h, 8, 3), domain::exactly(imm));
+            let imm = board::bits(h, 0, 8) as u16;
+            set_value(state, board::bits(h, 8, 3), domain::exactly(imm));
             0
         }
         1 => 0,
@@ -49,10 +49,10 @@ fn visit_alu(state: &mut [u64; 16], h: u16) -> u8
     requires { ⌜ length (now state) ≡ registerCount ⌝ }
     ensures { λ r. ⌜ ((s : State) (layout : Layout) (a : ByteAddress) → r ≡ numberOf s layout a (aluOf h)) × ((n : ℕ) → stateOf (now (state .exit)) ≡ afterOf n (aluOf h) (stateOf (now (state .entry)))) ⌝ }
 {
-    let rd = isa::bits(h, 0, 3);
+    let rd = board::bits(h, 0, 3);
     let d = value_at(state, rd);
-    let s = value_at(state, isa::bits(h, 3, 3));
-    match isa::bits(h, 6, 4) {
+    let s = value_at(state, board::bits(h, 3, 3));
+    match board::bits(h, 6, 4) {
         0 => {
             set_value(state, rd, domain::and(d, s));
             0
@@ -79,16 +79,16 @@ fn visit_high(state: &mut [u64; 16], h: u16) -> u8
     requires { ⌜ length (now state) ≡ registerCount ⌝ }
     ensures { λ r. ⌜ ((s : State) (layout : Layout) (a : ByteAddress) → r ≡ numberOf s layout a (highOf h)) × ((n : ℕ) → stateOf (now (state .exit)) ≡ afterOf n (highOf h) (stateOf (now (state .entry)))) ⌝ }
 {
-    let rd = isa::high_rd(h);
-    let s = value_at(state, isa::high_rs(h));
-    match isa::bits(h, 8, 2) {
+    let rd = board::high_rd(h);
+    let s = value_at(state, board::high_rs(h));
+    match board::bits(h, 8, 2) {
         0 => {
             let d = value_at(state, rd);
             set_value(state, rd, domain::add(d, s));
             check_write(rd)
         }
         1 => {
-            if isa::bits(h, 6, 2) == 0 {
+            if board::bits(h, 6, 2) == 0 {
                 UNDEFINED
             } else {
                 0
@@ -106,7 +106,7 @@ fn visit_registers(state: &mut [u64; 16], h: u16) -> u8
     requires { ⌜ length (now state) ≡ registerCount ⌝ }
     ensures { λ r. ⌜ ((s : State) (layout : Layout) (a : ByteAddress) → r ≡ numberOf s layout a (registersOf h)) × ((n : ℕ) → stateOf (now (state .exit)) ≡ afterOf n (registersOf h) (stateOf (now (state .entry)))) ⌝ }
 {
-    match isa::bits(h, 10, 3) {
+    match board::bits(h, 10, 3) {
         0 => visit_alu(state, h),
         1 => visit_high(state, h),
         _ => UNDEFINED,
@@ -117,10 +117,10 @@ fn visit_memory(state: &mut [u64; 16], layout: Layout, h: u16) -> u8
     requires { ⌜ length (now state) ≡ registerCount ⌝ }
     ensures { λ r. ⌜ ((a : ByteAddress) → r ≡ numberOf (stateOf (now (state .entry))) layout a (memoryOf h)) × ((n : ℕ) → stateOf (now (state .exit)) ≡ afterOf n (memoryOf h) (stateOf (now (state .entry)))) ⌝ }
 {
-    let offset = isa::bits(h, 6, 5);
-    let base = value_at(state, isa::bits(h, 3, 3));
-    let rd = isa::bits(h, 0, 3);
-    match isa::bits(h, 11, 2) {
+    let offset = board::bits(h, 6, 5);
+    let base = value_at(state, board::bits(h, 3, 3));
+    let rd = board::bits(h, 0, 3);
+    match board::bits(h, 11, 2) {
         0 => check_halfword(base, layout, offset),
         1 => {
             set_value(state, rd, domain::unknown());
@@ -145,21 +145,21 @@ fn add_pc(a: ByteAddress, imm: u8) -> Value
 fn visit_add_pc(state: &mut [u64; 16], a: ByteAddress, h: u16) -> u8
     ensures { λ r. ⌜ ((s : State) (layout : Layout) → r ≡ numberOf s layout a (addPcOf h)) × (stateOf (now (state .exit)) ≡ afterOf (a .0) (addPcOf h) (stateOf (now (state .entry)))) ⌝ }
 {
-    if isa::bits(h, 11, 2) != 0 {
+    if board::bits(h, 11, 2) != 0 {
         return UNDEFINED;
     }
-    set_value(state, isa::bits(h, 8, 3), add_pc(a, isa::bits(h, 0, 8)));
+    set_value(state, board::bits(h, 8, 3), add_pc(a, board::bits(h, 0, 8)));
     0
 }
 
 fn visit_branch(layout: Layout, a: ByteAddress, h: u16) -> u8
     ensures { λ r. ⌜ ((s : State) → r ≡ numberOf s layout a (branchOf h)) ⌝ }
 {
-    if isa::bits(h, 12, 1) != 1 {
+    if board::bits(h, 12, 1) != 1 {
         return UNDEFINED;
     }
-    if isa::bits(h, 8, 4) < 14 {
-        check_branch(a, isa::bits(h, 0, 8), layout)
+    if board::bits(h, 8, 4) < 14 {
+        check_branch(a, board::bits(h, 0, 8), layout)
     } else {
         UNDEFINED
     }
@@ -170,7 +170,7 @@ fn visit(state: &mut [u64; 16], layout: Layout, a: ByteAddress, h: u16) -> u8
     requires { ⌜ length (now state) ≡ registerCount ⌝ }
     ensures { λ r. ⌜ (r ≡ numberOf (stateOf (now (state .entry))) layout a (decodeOf h)) × (stateOf (now (state .exit)) ≡ afterOf (a .0) (decodeOf h) (stateOf (now (state .entry)))) ⌝ }
 {
-    match isa::bits(h, 13, 3) {
+    match board::bits(h, 13, 3) {
         0 => visit_halt(h),
         1 => visit_imm(state, h),
         2 => visit_registers(state, h),

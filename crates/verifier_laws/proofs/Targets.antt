@@ -7,13 +7,13 @@ use native.Mathlib.Decide.{ℕ-discrete}
 use native.Mathlib.Omega.{arith}
 use borrow.Author.Tests.{eq-eqb}
 use lib.ListN.{length}
-use Rattle.isa.specs.Address.{instructionIndexOf}
-use Rattle.isa.specs.declared.address.ByteAddress.{ByteAddress}
+use Rattle.board.specs.Address.{instructionIndexOf}
+use Rattle.board.specs.declared.address.ByteAddress.{ByteAddress}
 use Rattle.isa.specs.declared.decoder.Decoded.{Decoded}
 use Rattle.isa.specs.declared.decoder.Decoded.the-variants.{Defined}
 use Rattle.isa.specs.declared.instruction.Instruction.{Instruction}
 use Rattle.verifier.specs.Access.{jumpOf}
-use Rattle.verifier.specs.State.{State, unknownState, standingAt, transferOf, afterOf}
+use Rattle.verifier.specs.State.{unknownState, standingAt, transferOf, afterOf}
 use Rattle.verifier.specs.Targets.{addressOf, decodedAt, jumpAt, landsOn, goesTo, targetedBelow, targeted, markedAt}
 use Rattle.verifier.specs.Verify.{entering, valuesAt}
 use Rattle.verifier.specs.declared.branch.Target.{Target}

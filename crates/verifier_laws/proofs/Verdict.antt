@@ -1,31 +1,25 @@
 -- A file is fit exactly when every check gets a yes.
-use mathlib.Core.Bool.{Bool, true, cond}
-use mathlib.Core.List.{List, [], _∷_, _++_}
+use mathlib.Core.List.{List}
 use mathlib.Core.Path.{_≡_, refl, sym, ap, _∙_}
-use Prim.Native.Nat.{ℕ, zero, suc, _*_, _≤_, _<_}
+use Prim.Native.Nat.{ℕ, zero, suc, _<_}
 use native.Mathlib.Decide.{ℕ-discrete}
 use native.Mathlib.Nat.{le-refl}
 use native.Mathlib.Omega.{arith}
 use lib.Dec.{eqb}
 use lib.ListN.{length, getD}
-use Rattle.isa.specs.declared.address.ByteAddress.{ByteAddress}
 use Rattle.isa.specs.declared.decoder.Decoded.{Decoded}
 use Rattle.isa.specs.declared.decoder.Decoded.the-variants.{Defined, Undefined}
-use Rattle.isa.specs.declared.instruction.Instruction.{Instruction}
-use Rattle.image.specs.Check.{Asked, firstNo, checkOf}
+use Rattle.image.specs.Check.{firstNo, checkOf}
 use Rattle.image.specs.Code.{codeOf}
 use Rattle.image.specs.declared.answer.Answer.{Answer}
 use Rattle.image.specs.declared.answer.Answer.the-variants as answer
 use Rattle.image.specs.declared.checker.Checked.{Checked}
 use Rattle.image.specs.declared.checker.Checked.the-variants as checked
 use Rattle.image.specs.declared.checker.Layout.{Layout}
-use Rattle.image.proofs.Answers.{passed-head, head-passed, tail-passed, left-passed, right-passed}
-use Rattle.verifier.specs.Access.{accessOf}
-use Rattle.verifier.specs.State.{State, value}
+use Rattle.image.proofs.Answers.{head-passed, tail-passed, left-passed, right-passed}
 use Rattle.verifier.specs.Targets.{addressOf, decodedAt}
-use Rattle.verifier.specs.Questions.{check10, check11, check12, check13, check14, atAddress, halfwordChecks}
+use Rattle.verifier.specs.Questions.{halfwordChecks}
 use Rattle.verifier.specs.Verify.{valuesAt, layoutWith, checksAt, codeChecks, verdictBelow, verdictAs, verifyCode, verifyChecked, verifyOf}
-use Rattle.verifier.specs.declared.verifier.Verdict.{Verdict}
 use Rattle.verifier.specs.declared.verifier.Verdict.the-variants.{Fit, Refused}
 use Rattle.verifier.proofs.Accepted.{layout-is}
 use Rattle.verifier.proofs.Walk.{next}

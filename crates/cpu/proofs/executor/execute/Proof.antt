@@ -2,7 +2,7 @@
 use native.Mathlib.Omega.{arith}
 use mathlib.Core.Path.{_≡_, refl, _∙_}
 use lib.Dec.{lit<}
-use Rattle.isa.specs.Field.{field}
+use Rattle.board.specs.Field.{field}
 use Rattle.isa.specs.Decode.{haltOf, registersOf, branchOf, decodeOf}
 use Rattle.isa.specs.declared.decoder.Decoded.the-variants.{Defined}
 use Rattle.isa.specs.declared.instruction.Instruction.the-variants.{MovImm, CmpImm, Str, Ldr, Strb, Ldrb, AddPc, Branch}

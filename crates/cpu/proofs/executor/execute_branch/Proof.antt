@@ -1,8 +1,6 @@
 -- The test is the definition's.
-use native.Mathlib.Omega.{arith}
-use mathlib.Core.Path.{_≡_, refl}
+use mathlib.Core.Path.{refl}
 use borrow.Author.Tests.{lt-ltb, le-ltb}
-use Rattle.isa.specs.Field.{field}
 use Rattle.isa.specs.Decode.{branchOf}
 use Rattle.isa.specs.declared.instruction.Instruction.the-variants.{Branch}
 use Rattle.cpu.specs.Step.{executeOf}

@@ -4,7 +4,7 @@ use native.Mathlib.Omega.{arith}
 use Prim.Native.Nat.{_≤_, _-_}
 use lib.ListN.{length}
 use mathlib.Core.Path.{_≡_, sym, _∙_}
-use Rattle.cpu.specs.Memory.{memorySize}
+use Rattle.board.specs.Address.{memoryBytes}
 use Rattle.cpu.specs.Run.{runFrom}
 use Rattle.cpu.specs.Held.{held, Whole}
 use Rattle.cpu.proofs.Runs.{state, run-refused, run-starts, run-spent, run-ends, run-again}
@@ -14,8 +14,8 @@ use Rattle.cpu.proofs.runner.run.Tie as tie
 abbrev Inv-loop : tie.InvT-loop
 Inv-loop memory₀ budget regs₀ k₀ count₀ memory regs k count =
     (count ≤ budget)
-    × (length memory₀ ≡ memorySize)
-    × (length memory ≡ memorySize)
+    × (length memory₀ ≡ memoryBytes)
+    × (length memory ≡ memoryBytes)
     × Whole regs
     × (runFrom (budget - count) count (state (held regs k) memory) ≡ runFrom budget 0 (state (held regs₀ k₀) memory₀))
 
@@ -29,7 +29,7 @@ run-spec =
     Inv-loop
     μ-loop
     (λ c κs. search needs)
-    (λ c. run-refused _ _ _ _ (c .before .if1 .taken) (c .wrong-size .ensures))
+    (λ c. run-refused _ _ _ _ (c .before .if1 .taken) (c .refusal-of .ensures))
     (λ c κs. search needs)
     (λ c. (omega arith, c .before .before .if1 .left, c .before .before .if1 .left, search needs, run-starts _ _))
     (λ c κs. search needs)

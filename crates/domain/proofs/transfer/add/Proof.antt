@@ -1,5 +1,5 @@
 -- `add` is right because its test asks, without a sum that wraps, whether the sum of the upper bounds is above 65535.
-use mathlib.Core.Path.{_≡_, sym, _∙_}
+use mathlib.Core.Path.{sym, _∙_}
 use Prim.Native.Nat.{_+_, _≤_, _<_}
 use native.Mathlib.Omega.{arith}
 use borrow.Author.Needs.{needs}

@@ -1,9 +1,9 @@
 -- The top three bits pick the format.
 use native.Mathlib.Omega.{arith}
-use Rattle.isa.specs.Field.{field}
-use mathlib.Core.Path.{_≡_, refl, sym, ap, _∙_}
+use Rattle.board.specs.Field.{field}
+use mathlib.Core.Path.{_≡_}
 use Prim.Native.Nat.{zero-le}
-use Prim.Native.Nat.{ℕ, _+_, _-_, _*_, _/_, _%_, _^_, _<_, _≤_, max}
+use Prim.Native.Nat.{_≤_}
 use Rattle.isa.proofs.Table.{entry-past, skip}
 use borrow.Author.Needs.{needs}
 use Rattle.isa.proofs.decoder.decode.Statement.{statement}

@@ -1,9 +1,8 @@
 -- The one test is the definition's.
 use native.Mathlib.Omega.{arith}
-use borrow.Author.Tests.{eq-eqb, ne-eqb, lt-ltb, le-ltb}
-use Rattle.isa.specs.Field.{field}
-use mathlib.Core.Path.{_≡_, refl, sym, ap, _∙_}
-use Prim.Native.Nat.{ℕ, _+_, _-_, _*_, _/_, _%_, _^_, _<_, _≤_, max}
+use borrow.Author.Tests.{ne-eqb}
+use Rattle.board.specs.Field.{field}
+use mathlib.Core.Path.{_≡_}
 use borrow.Author.Needs.{needs}
 use Rattle.isa.proofs.decoder.decode_add_pc.Statement.{statement}
 use Rattle.isa.proofs.decoder.decode_add_pc.Tie as tie

@@ -1,9 +1,9 @@
 -- The operation's bits pick the table's entry.
-use mathlib.Core.Path.{_≡_, refl, sym, ap, _∙_}
+use mathlib.Core.Path.{_≡_}
 use native.Mathlib.Omega.{arith}
-use Rattle.isa.specs.Field.{field}
-use Prim.Native.Nat.{ℕ, _+_, _-_, _*_, _/_, _%_, _^_, _<_, _≤_, max}
-use Rattle.isa.proofs.Table.{entry-past, skip}
+use Rattle.board.specs.Field.{field}
+use Prim.Native.Nat.{_≤_}
+use Rattle.isa.proofs.Table.{entry-past}
 use borrow.Author.Needs.{needs}
 use Rattle.isa.proofs.decoder.decode_alu.Statement.{statement}
 use Rattle.isa.proofs.decoder.decode_alu.Tie as tie

@@ -1,5 +1,5 @@
 -- The one test is the definition's.
-use borrow.Author.Tests.{eq-eqb, ne-eqb, lt-ltb, le-ltb}
+use borrow.Author.Tests.{eq-eqb, ne-eqb}
 use Rattle.isa.proofs.decoder.decode_halt.Statement.{statement}
 use Rattle.isa.proofs.decoder.decode_halt.Tie as tie
 

@@ -1,10 +1,10 @@
 -- The operation's bits pick the table's entry; a comparison asks for H1 or H2 as well.
 use native.Mathlib.Omega.{arith}
-use borrow.Author.Tests.{eq-eqb, ne-eqb, lt-ltb, le-ltb}
-use Rattle.isa.specs.Field.{field}
-use mathlib.Core.Path.{_≡_, refl, sym, ap, _∙_}
-use Prim.Native.Nat.{ℕ, _+_, _-_, _*_, _/_, _%_, _^_, _<_, _≤_, max}
-use Rattle.isa.proofs.Table.{entry-past, skip}
+use borrow.Author.Tests.{lt-ltb}
+use Rattle.board.specs.Field.{field}
+use mathlib.Core.Path.{_≡_}
+use Prim.Native.Nat.{_<_, _≤_}
+use Rattle.isa.proofs.Table.{entry-past}
 use borrow.Author.Needs.{needs}
 use Rattle.isa.proofs.decoder.decode_high.Statement.{statement}
 use Rattle.isa.proofs.decoder.decode_high.Tie as tie

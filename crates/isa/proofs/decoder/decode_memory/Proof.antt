@@ -1,8 +1,7 @@
 -- B and L pick the table's entry.
-use mathlib.Core.Path.{_≡_, refl, sym, ap, _∙_}
+use mathlib.Core.Path.{_≡_}
 use native.Mathlib.Omega.{arith}
-use Rattle.isa.specs.Field.{field}
-use Prim.Native.Nat.{ℕ, _+_, _-_, _*_, _/_, _%_, _^_, _<_, _≤_, max}
+use Rattle.board.specs.Field.{field}
 use borrow.Author.Needs.{needs}
 use Rattle.isa.proofs.decoder.decode_memory.Statement.{statement}
 use Rattle.isa.proofs.decoder.decode_memory.Tie as tie

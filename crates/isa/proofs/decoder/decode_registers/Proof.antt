@@ -1,9 +1,9 @@
 -- Bits 12 to 10 pick the format.
 use native.Mathlib.Omega.{arith}
-use Rattle.isa.specs.Field.{field}
-use mathlib.Core.Path.{_≡_, refl, sym, ap, _∙_}
-use Prim.Native.Nat.{ℕ, _+_, _-_, _*_, _/_, _%_, _^_, _<_, _≤_, max}
-use Rattle.isa.proofs.Table.{entry-past, skip}
+use Rattle.board.specs.Field.{field}
+use mathlib.Core.Path.{_≡_}
+use Prim.Native.Nat.{_≤_}
+use Rattle.isa.proofs.Table.{entry-past}
 use borrow.Author.Needs.{needs}
 use Rattle.isa.proofs.decoder.decode_registers.Statement.{statement}
 use Rattle.isa.proofs.decoder.decode_registers.Tie as tie

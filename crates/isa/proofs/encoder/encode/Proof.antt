@@ -1,5 +1,5 @@
 -- Each arm is its instruction's format.
-use mathlib.Core.Path.{_≡_, refl, sym, ap, _∙_}
+use mathlib.Core.Path.{sym, ap, _∙_}
 use borrow.Author.Needs.{needs}
 use Rattle.isa.specs.Encode.{encodeOf}
 use Rattle.isa.proofs.encoder.encode.Statement.{statement}

@@ -1,11 +1,11 @@
 -- The fields share no bit, so that `|` adds them; Rs and H2 stand side by side.
 use native.Mathlib.Omega.{arith}
-use mathlib.Core.Path.{_≡_, refl, sym, ap, _∙_}
-use Prim.Native.Nat.{ℕ, _+_, _-_, _*_, _/_, _%_, _^_, _<_, _≤_, max}
-use borrow.Author.Tests.{eq-eqb, ne-eqb, lt-ltb, le-ltb}
-use Rattle.isa.proofs.Or.{low, top}
+use mathlib.Core.Path.{_≡_, refl, ap, _∙_}
+use Prim.Native.Nat.{ℕ, _+_, _*_, _/_, _%_, _<_, _≤_}
+use borrow.Author.Tests.{lt-ltb, le-ltb}
+use Rattle.board.proofs.Or.{low, top}
 use Rattle.isa.specs.declared.encoder.Encoded.the-variants.{Halfword}
-use lib.Bits.{and-mask, mask-lt, bitOr, bitAnd}
+use lib.Bits.{and-mask, mask-lt, bitAnd}
 use borrow.Author.Needs.{needs}
 use Rattle.isa.proofs.encoder.high_form.Statement.{statement}
 use Rattle.isa.proofs.encoder.high_form.Tie as tie

@@ -1,9 +1,6 @@
 -- The checks come first; memory changes only where all have passed.
-use mathlib.Core.Path.{_≡_, sym, ap, _∙_}
-use native.Mathlib.Omega.{arith}
+use mathlib.Core.Path.{_≡_}
 use borrow.Author.Needs.{needs}
-use lib.ListN.{length}
-use Rattle.image.specs.Format.{memoryBytes}
 use Rattle.verifier.specs.Verify.{verifyOf}
 use Rattle.verifier.specs.declared.verifier.Verdict.the-variants as verdict
 use Rattle.loader.proofs.Answers.{wrong-size, unfit, done}
@@ -14,7 +11,8 @@ pub load-spec : {M : Type 1} → statement M
 load-spec =
     tie.close
     (tie.spec
-    (λ c. wrong-size (c .before .before .before .args .file .now) (c .before .before .before .args .memory .now) (c .if1 .taken))
+    (λ c κs. search needs)
+    (λ c. wrong-size (c .before .before .before .before .args .file .now) (c .before .before .before .before .args .memory .now) _ (c .before .if1 .taken) (c .refusal-of .ensures))
     (λ c κs. search needs)
     (λ c. search needs)
     (λ c. search needs)

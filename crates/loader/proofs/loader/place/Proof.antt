@@ -1,11 +1,10 @@
 -- The code of a fit file lies in the file, and code and window lie in memory.
-use mathlib.Core.List.{List}
-use mathlib.Core.Path.{_≡_, sym, ap, _∙_}
-use Prim.Native.Nat.{ℕ, _+_, _/_, _≤_}
+use mathlib.Core.Path.{ap, _∙_}
+use Prim.Native.Nat.{_+_, _/_}
 use native.Mathlib.Omega.{arith}
 use borrow.Author.Needs.{needs}
 use lib.ListN.{length}
-use Rattle.loader.specs.Copy.{withCode, cleared}
+use Rattle.loader.specs.Copy.{cleared}
 use Rattle.loader.proofs.Copied.{code-long}
 use Rattle.loader.proofs.Fit.{window-fits, code-there, code-fits-memory, placed}
 use Rattle.loader.proofs.loader.place.Statement.{statement}

@@ -1,7 +1,7 @@
 -- Each case is the definition's.
-use mathlib.Core.Path.{_≡_, refl, sym, ap, _∙_}
+use mathlib.Core.Path.{sym, ap, _∙_}
 use borrow.Author.Needs.{needs}
-use Rattle.paw.specs.Answers.{checkedWord, verdictWord, loadedWord, packedNumber}
+use Rattle.paw.specs.Answers.{checkedWord}
 use Rattle.paw.proofs.answers.checked_word.Statement.{statement}
 use Rattle.paw.proofs.answers.checked_word.Tie as tie
 

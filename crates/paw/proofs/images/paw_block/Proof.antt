@@ -1,5 +1,5 @@
 -- The length of what `given_at` gives.
-use mathlib.Core.Path.{_≡_, refl, sym, ap, _∙_}
+use mathlib.Core.Path.{ap}
 use borrow.Author.Needs.{needs}
 use lib.ListN.{length}
 use Rattle.paw.proofs.images.paw_block.Statement.{statement}

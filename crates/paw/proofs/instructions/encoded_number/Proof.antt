@@ -1,5 +1,5 @@
 -- Each case is the definition's.
-use mathlib.Core.Path.{_≡_, refl, sym, ap, _∙_}
+use mathlib.Core.Path.{sym, ap}
 use borrow.Author.Needs.{needs}
 use Rattle.paw.specs.Instructions.{encodedNumber}
 use Rattle.paw.proofs.instructions.encoded_number.Statement.{statement}

@@ -1,9 +1,7 @@
 -- The number and count of what `run` answers.
-use mathlib.Core.List.{List}
-use mathlib.Core.Path.{_≡_, ap, _∙_}
+use mathlib.Core.Path.{ap, _∙_}
 use Prim.Native.Nat.{ℕ, _+_, _*_}
 use borrow.Author.Needs.{needs}
-use Rattle.cpu.specs.Run.{RunResult}
 use Rattle.paw.specs.Machines.{numbered, numberedRun}
 use Rattle.paw.proofs.machines.run_numbered.Statement.{statement}
 use Rattle.paw.proofs.machines.run_numbered.Tie as tie

@@ -1,9 +1,7 @@
 -- The number of what `step_value` answers.
-use mathlib.Core.List.{List}
-use mathlib.Core.Path.{_≡_, ap, _∙_}
+use mathlib.Core.Path.{ap, _∙_}
 use Prim.Native.Nat.{ℕ}
 use borrow.Author.Needs.{needs}
-use Rattle.cpu.specs.Step.{StepResult}
 use Rattle.paw.specs.Machines.{numbered, numberedStep}
 use Rattle.paw.proofs.machines.step_numbered.Statement.{statement}
 use Rattle.paw.proofs.machines.step_numbered.Tie as tie

@@ -1,7 +1,7 @@
 -- The word of what `verify` answers.
-use mathlib.Core.Path.{_≡_, refl, sym, ap, _∙_}
+use mathlib.Core.Path.{ap, _∙_}
 use borrow.Author.Needs.{needs}
-use Rattle.paw.specs.Answers.{checkedWord, verdictWord, loadedWord, packedNumber}
+use Rattle.paw.specs.Answers.{verdictWord}
 use Rattle.paw.proofs.programs.paw_verify.Statement.{statement}
 use Rattle.paw.proofs.programs.paw_verify.Tie as tie
 

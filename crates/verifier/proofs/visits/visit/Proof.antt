@@ -2,7 +2,7 @@
 use mathlib.Core.Path.{_≡_, sym}
 use Prim.Native.Nat.{_≤_}
 use native.Mathlib.Omega.{arith}
-use Rattle.isa.specs.Field.{field}
+use Rattle.board.specs.Field.{field}
 use Prim.Native.Nat.{zero-le}
 use Rattle.isa.proofs.Table.{entry-past, skip}
 use Rattle.verifier.proofs.Walk.{after-halt, after-branch}

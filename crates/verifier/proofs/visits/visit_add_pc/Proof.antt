@@ -1,7 +1,7 @@
 -- `visit_add_pc` is right because its test is the definition's.
 use mathlib.Core.Path.{_≡_, _∙_}
 use native.Mathlib.Omega.{arith}
-use Rattle.isa.specs.Field.{field}
+use Rattle.board.specs.Field.{field}
 use borrow.Author.Tests.{ne-eqb}
 use borrow.Author.Needs.{needs}
 use Rattle.verifier.proofs.visits.visit_add_pc.Statement.{statement}

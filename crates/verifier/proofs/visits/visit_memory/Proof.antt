@@ -1,7 +1,7 @@
 -- `visit_memory` is right because B and L pick the table's entry.
 use mathlib.Core.Path.{_≡_, _∙_}
 use native.Mathlib.Omega.{arith}
-use Rattle.isa.specs.Field.{field}
+use Rattle.board.specs.Field.{field}
 use borrow.Author.Needs.{needs}
 use Rattle.verifier.proofs.visits.visit_memory.Statement.{statement}
 use Rattle.verifier.proofs.visits.visit_memory.Tie as tie

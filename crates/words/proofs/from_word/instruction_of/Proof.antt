@@ -1,7 +1,7 @@
 -- The kind picks the table's entry.
-use mathlib.Core.Path.{_≡_, refl, sym, ap, _∙_}
+use mathlib.Core.Path.{_≡_}
 use native.Mathlib.Omega.{arith}
-use Prim.Native.Nat.{ℕ, _+_, _-_, _*_, _/_, _%_, _^_, _<_, _≤_, zero-le}
+use Prim.Native.Nat.{_/_, _≤_, zero-le}
 use Rattle.isa.proofs.Table.{entry-past, skip}
 use borrow.Author.Needs.{needs}
 use Rattle.words.proofs.from_word.instruction_of.Statement.{statement}

@@ -1,5 +1,5 @@
 -- Each arm is its instruction's word.
-use mathlib.Core.Path.{_≡_, refl, sym, ap, _∙_}
+use mathlib.Core.Path.{sym, ap, _∙_}
 use borrow.Author.Needs.{needs}
 use Rattle.words.specs.Words.{wordOf}
 use Rattle.words.proofs.to_word.word_of.Statement.{statement}

@@ -1,11 +1,11 @@
 -- The standard library's sum wraps as the definition does.
-use mathlib.Core.Path.{_≡_, refl, sym, ap, _∙_}
+use mathlib.Core.Path.{_≡_, ap}
 use native.Mathlib.Omega.{arith}
-use Prim.Native.Nat.{ℕ, _+_, _-_, _*_, _/_, _%_, _^_, _<_, _≤_, max}
+use Prim.Native.Nat.{ℕ}
 use borrow.Author.Needs.{needs}
-use Rattle.isa.specs.declared.address.ByteAddress.{ByteAddress}
-use Rattle.isa.proofs.address.byte_address.Statement.{statement}
-use Rattle.isa.proofs.address.byte_address.Tie as tie
+use Rattle.board.specs.declared.address.ByteAddress.{ByteAddress}
+use Rattle.board.proofs.address.byte_address.Statement.{statement}
+use Rattle.board.proofs.address.byte_address.Tie as tie
 
 -- equal numbers are equal addresses
 at : {a b : ℕ} → a ≡ b → _≡_ {A = ByteAddress} (record { 0 = a }) (record { 0 = b })

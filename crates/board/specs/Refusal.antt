@@ -1,8 +1,8 @@
 -- Refusals ("The questions"): the number of the first check that failed, and its place.
 use Prim.Native.Nat.{ℕ}
-use Rattle.isa.specs.declared.refusal.Place.{Place}
-use Rattle.isa.specs.declared.refusal.Place.the-variants.{Nowhere, Block, Address}
-use Rattle.isa.specs.declared.refusal.Refusal.{Refusal}
+use Rattle.board.specs.declared.refusal.Place.{Place}
+use Rattle.board.specs.declared.refusal.Place.the-variants.{Nowhere, Block, Address}
+use Rattle.board.specs.declared.refusal.Refusal.{Refusal}
 
 -- a refusal with no place: checks 1, 2, 8 and 15 to 17
 abbrev pub refusal : ℕ → Refusal

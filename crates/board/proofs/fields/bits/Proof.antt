@@ -1,14 +1,14 @@
 -- A shift drops the bits below the field, and a mask of ones those above it.
-use mathlib.Core.Path.{_≡_, refl, sym, ap, _∙_}
+use mathlib.Core.Path.{_≡_, _∙_}
 use native.Mathlib.Omega.{arith}
 use native.Mathlib.Nat.{one-mul}
-use Prim.Native.Nat.{ℕ, _+_, _-_, _*_, _/_, _%_, _^_, _<_, _≤_, max}
-use lib.Bits.{and-mask, mask-lt, bitOr, bitAnd}
+use Prim.Native.Nat.{ℕ, _*_, _/_, _%_, _^_, _≤_}
+use lib.Bits.{and-mask, mask-lt}
 use lib.Dec.{lit<}
 use lib.Pow.{shl-exact, pow-mono, pow-pos}
 use borrow.Author.Needs.{needs}
-use Rattle.isa.proofs.fields.bits.Statement.{statement}
-use Rattle.isa.proofs.fields.bits.Tie as tie
+use Rattle.board.proofs.fields.bits.Statement.{statement}
+use Rattle.board.proofs.fields.bits.Tie as tie
 
 -- 1 shifted left by a width is a power of two, which fits
 one-shifted : (n : ℕ) → n ≤ 8 → 1 * 2 ^ n % 65536 ≡ 2 ^ n

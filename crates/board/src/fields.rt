@@ -2,8 +2,7 @@
 // them here.
 ghost use mathlib.Core.Path.{_≡_};
 ghost use Prim.Native.Nat.{_≤_, _<_};
-ghost use Rattle.isa.specs.Field.{field};
-ghost use Rattle.isa.specs.Decode.{highRs, highRd};
+ghost use Rattle.board.specs.Field.{field, highRs, highRd};
 
 // The `width` bits of a halfword from bit `at` up.
 pub fn bits(h: u16, at: u16, width: u16) -> u8

@@ -1,12 +1,12 @@
 -- 128 to 255 stand for a distance back, which wraps as a long way forward.
-use mathlib.Core.Path.{_≡_, refl, sym, ap, _∙_}
+use mathlib.Core.Path.{_≡_, ap}
 use native.Mathlib.Omega.{arith}
-use Prim.Native.Nat.{ℕ, _+_, _-_, _*_, _/_, _%_, _^_, _<_, _≤_, max}
-use borrow.Author.Tests.{eq-eqb, ne-eqb, lt-ltb, le-ltb}
+use Prim.Native.Nat.{ℕ, _<_, _≤_}
+use borrow.Author.Tests.{lt-ltb, le-ltb}
 use borrow.Author.Needs.{needs}
-use Rattle.isa.specs.declared.address.ByteAddress.{ByteAddress}
-use Rattle.isa.proofs.address.branch_target.Statement.{statement}
-use Rattle.isa.proofs.address.branch_target.Tie as tie
+use Rattle.board.specs.declared.address.ByteAddress.{ByteAddress}
+use Rattle.board.proofs.address.branch_target.Statement.{statement}
+use Rattle.board.proofs.address.branch_target.Tie as tie
 
 -- equal numbers are equal addresses
 at : {a b : ℕ} → a ≡ b → _≡_ {A = ByteAddress} (record { 0 = a }) (record { 0 = b })

@@ -2,12 +2,16 @@
 use mathlib.Core.Bool.{cond}
 use Prim.Native.Nat.{ℕ, _+_, _*_, _/_, _%_}
 use lib.Dec.{ltb}
-use Rattle.isa.specs.declared.address.ByteAddress.{ByteAddress}
-use Rattle.isa.specs.declared.address.InstructionIndex.{InstructionIndex}
+use Rattle.board.specs.declared.address.ByteAddress.{ByteAddress}
+use Rattle.board.specs.declared.address.InstructionIndex.{InstructionIndex}
 
 -- numbers are 16 bits wide: what goes past the last comes round to 0
 abbrev pub wrap : ℕ → ℕ
 wrap n = n % 65536
+
+-- the bytes of the machine's memory, one for each address
+abbrev pub memoryBytes : ℕ
+memoryBytes = 65536
 
 -- an instruction is two bytes long
 abbrev pub byteAddressOf : InstructionIndex → ByteAddress

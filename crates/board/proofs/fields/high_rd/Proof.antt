@@ -1,11 +1,11 @@
 -- H1, moved to bit 3, shares no bit with the three bits of Rd.
 use native.Mathlib.Omega.{arith}
-use mathlib.Core.Path.{_≡_, refl, sym, ap, _∙_}
-use Prim.Native.Nat.{ℕ, _+_, _-_, _*_, _/_, _%_, _^_, _<_, _≤_, max}
-use Rattle.isa.proofs.Or.{low, top}
+use mathlib.Core.Path.{refl}
+use Prim.Native.Nat.{_*_, _%_}
+use Rattle.board.proofs.Or.{low}
 use borrow.Author.Needs.{needs}
-use Rattle.isa.proofs.fields.high_rd.Statement.{statement}
-use Rattle.isa.proofs.fields.high_rd.Tie as tie
+use Rattle.board.proofs.fields.high_rd.Statement.{statement}
+use Rattle.board.proofs.fields.high_rd.Tie as tie
 
 pub high-rd-spec : {M : Type 1} → statement M
 high-rd-spec =

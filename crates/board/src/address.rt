@@ -1,13 +1,16 @@
 // Code is counted in instructions and in bytes. The two counts are types of
 // their own, so that neither is taken for the other.
 ghost use mathlib.Core.Path.{_≡_};
-ghost use Rattle.isa.specs.Address.{byteAddressOf, instructionIndexOf, branchTargetOf};
+ghost use Rattle.board.specs.Address.{byteAddressOf, instructionIndexOf, branchTargetOf};
 
 // The number of an instruction in its code, from 0.
 pub struct InstructionIndex(pub u16);
 
 // The address of a byte in memory.
 pub struct ByteAddress(pub u16);
+
+// The bytes of the machine's memory, one for each address.
+pub const MEMORY_BYTES: usize = 65536;
 
 // Where an instruction stands: twice its number. A number above 32,767 wraps,
 // as every address of this machine does.

@@ -1,0 +1,3 @@
+pub mod Address
+pub mod Field
+pub mod Refusal
