@@ -1,3 +1,4 @@
 pub mod Address
+pub mod Bytes
 pub mod Field
 pub mod Refusal

@@ -1,6 +1,7 @@
 // What every part of the board's firmware speaks of: the two ways to count code
-// (instructions and bytes), the fields of a halfword, and refusals.
+// (instructions and bytes), halfwords and their fields, and refusals.
 mod address;
+mod bytes;
 mod fields;
 mod refusal;
 
@@ -10,6 +11,8 @@ pub use address::MEMORY_BYTES;
 pub use address::branch_target;
 pub use address::byte_address;
 pub use address::instruction_index;
+pub use bytes::halfword_at;
+pub use bytes::put_halfword;
 pub use fields::bits;
 pub use fields::high_rd;
 pub use fields::high_rs;

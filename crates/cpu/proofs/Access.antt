@@ -11,7 +11,7 @@ use Rattle.cpu.specs.declared.machine.Machine.{Machine}
 use Rattle.cpu.specs.declared.outcome.Outcome.{Outcome}
 use Rattle.cpu.specs.declared.outcome.Outcome.the-variants.{Completed, Stopped}
 use Rattle.cpu.specs.Machine.{machine, advanced, written}
-use Rattle.cpu.specs.Memory.{halfwordAt, withByte, withHalfword}
+use Rattle.board.specs.Bytes.{halfwordAt, withByte, withHalfword}
 use Rattle.cpu.specs.Step.{stepResult, ldrOf, strOf, strbOf}
 use Rattle.cpu.specs.Held.{statusIn, flagsIn, held, control, Whole, Holds, Leads}
 use Rattle.cpu.proofs.Ends.{low-is, advance-holds}

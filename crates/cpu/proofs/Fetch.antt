@@ -7,7 +7,7 @@ use Rattle.isa.specs.Decode.{decodeOf}
 use Rattle.cpu.specs.declared.held.Control.{Control}
 use Rattle.cpu.specs.declared.held.Executed.{Executed}
 use Rattle.cpu.specs.declared.outcome.Outcome.the-variants.{Stopped}
-use Rattle.cpu.specs.Memory.{halfwordAt}
+use Rattle.board.specs.Bytes.{halfwordAt}
 use Rattle.cpu.specs.Step.{executeDecoded, fetched, fetchAndExecute}
 use Rattle.cpu.specs.Held.{held, Whole, Leads}
 use Rattle.cpu.proofs.Ends.{pc-is}

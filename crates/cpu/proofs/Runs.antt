@@ -46,7 +46,7 @@ unfolding runFrom
 turn left count s r step =
     ap (λ (q : StepResult). goOn (q .outcome) (q .state) count (runFrom left (count + 1) (q .state))) step
 
--- an outcome that is not the first, which is that of a completed step
+-- what the last arm of the match on an outcome tells: its variant is not the first one, `Completed`
 abbrev pub Last : Outcome → Type 0
 Last o = OneOf (1 ∷ 2 ∷ 3 ∷ []) (tagOf the-type o)
 

@@ -1,5 +1,4 @@
 pub mod Machine
-pub mod Memory
 pub mod Alu
 pub mod Step
 pub mod Run

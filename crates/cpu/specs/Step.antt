@@ -16,7 +16,7 @@ use Rattle.cpu.specs.declared.machine.Machine.{Machine}
 use Rattle.cpu.specs.declared.outcome.Outcome.{Outcome}
 use Rattle.cpu.specs.declared.outcome.Outcome.the-variants.{Completed, Halted, Stopped, Refused}
 use Rattle.cpu.specs.Machine.{reg, pc, flags, machine, advanced, written}
-use Rattle.cpu.specs.Memory.{byteAt, halfwordAt, withByte, withHalfword}
+use Rattle.board.specs.Bytes.{byteAt, halfwordAt, withByte, withHalfword}
 use Rattle.cpu.specs.Alu.{resultFlags, sumOf, sumFlags, differenceOf, differenceFlags, shiftOf, shiftFlags, conditionOf}
 
 -- a machine and the memory beside it

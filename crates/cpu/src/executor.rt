@@ -7,9 +7,11 @@ use super::held::Executed;
 use super::held::completed;
 use super::held::stopped;
 use super::instructions;
-use super::memory::load_halfword;
+use super::outcome::ODD_PC;
 use super::outcome::Outcome;
+use super::outcome::UNDEFINED;
 use board::bits;
+use board::halfword_at;
 use board::high_rd;
 use board::high_rs;
 ghost use mathlib.Core.Path.{_≡_};
@@ -30,7 +32,7 @@ fn execute_halt(k: Control, h: u16) -> Executed
             outcome: Outcome::Halted,
         }
     } else {
-        stopped(k, 19)
+        stopped(k, UNDEFINED)
     }
 }
 
@@ -48,7 +50,7 @@ fn execute_alu(regs: &mut [u16; 16], k: Control, h: u16) -> Executed
         3 => completed(instructions::tst(regs, k, rs, rd)),
         4 => completed(instructions::neg(regs, k, rs, rd)),
         5 => completed(instructions::cmp(regs, k, rs, rd)),
-        _ => stopped(k, 19),
+        _ => stopped(k, UNDEFINED),
     }
 }
 
@@ -63,13 +65,13 @@ fn execute_high(regs: &mut [u16; 16], k: Control, h: u16) -> Executed
         0 => completed(instructions::add_high(regs, k, rs, rd)),
         1 => {
             if bits(h, 6, 2) == 0 {
-                stopped(k, 19)
+                stopped(k, UNDEFINED)
             } else {
                 completed(instructions::cmp_high(regs, k, rs, rd))
             }
         }
         2 => completed(instructions::mov_high(regs, k, rs, rd)),
-        _ => stopped(k, 19),
+        _ => stopped(k, UNDEFINED),
     }
 }
 
@@ -95,7 +97,7 @@ fn execute_branch(k: Control, h: u16) -> Executed
     if cond < 14 {
         completed(instructions::branch(k, cond, bits(h, 0, 8)))
     } else {
-        stopped(k, 19)
+        stopped(k, UNDEFINED)
     }
 }
 
@@ -126,7 +128,7 @@ fn execute(regs: &mut [u16; 16], k: Control, memory: &mut [u8], h: u16) -> Execu
         20 => completed(instructions::add_pc(regs, k, bits(h, 8, 3), bits(h, 0, 8))),
         26 => completed(instructions::branch(k, bits(h, 8, 3), bits(h, 0, 8))),
         27 => execute_branch(k, h),
-        _ => stopped(k, 19),
+        _ => stopped(k, UNDEFINED),
     }
 }
 
@@ -136,8 +138,8 @@ pub(crate) fn fetch_and_execute(regs: &mut [u16; 16], k: Control, memory: &mut [
     ensures { λ r. ⌜ Leads (now (regs .exit)) r (now (memory .exit)) (fetchAndExecute (held (now (regs .entry)) k) (now (memory .entry))) ⌝ }
 {
     if k.pc % 2 != 0 {
-        return stopped(k, 18);
+        return stopped(k, ODD_PC);
     }
-    let h = load_halfword(memory, k.pc as usize);
+    let h = halfword_at(memory, k.pc as usize);
     execute(regs, k, memory, h)
 }

@@ -17,11 +17,12 @@ use super::held::stopped;
 use super::held::write;
 use super::held::write_low;
 use super::memory::load_byte;
-use super::memory::load_halfword;
 use super::memory::store_byte;
-use super::memory::store_halfword;
+use super::outcome::MISALIGNED;
 use super::status::condition;
 use board::ByteAddress;
+use board::halfword_at;
+use board::put_halfword;
 ghost use mathlib.Core.Path.{_≡_};
 ghost use Prim.Native.Nat.{_+_, _*_, _/_, _<_};
 ghost use lib.ListN.{length};
@@ -150,9 +151,9 @@ pub(crate) fn ldr(
 {
     let a = effective_address(regs[rb as usize], 4 * (offset as u16));
     if a % 4 != 0 {
-        return stopped(k, 20);
+        return stopped(k, MISALIGNED);
     }
-    let x = load_halfword(memory, a as usize);
+    let x = halfword_at(memory, a as usize);
     completed(write_low(regs, k.pc, rd, x, status_in(k)))
 }
 
@@ -216,10 +217,10 @@ pub(crate) fn str(
 {
     let a = effective_address(regs[rb as usize], 4 * (offset as u16));
     if a % 4 != 0 {
-        return stopped(k, 20);
+        return stopped(k, MISALIGNED);
     }
     let x = regs[rd as usize];
-    store_halfword(memory, a as usize, x);
+    put_halfword(memory, a as usize, x);
     completed(advance(k.pc, status_in(k)))
 }
 

@@ -1,8 +1,14 @@
 // How a step ends.
 use board::Refusal;
 
-// It completed, it met HALT, it stopped (18 odd PC, 19 undefined halfword, 20
-// misaligned address), or check 1 refused the memory.
+// The numbers of the stops.
+pub const ODD_PC: u8 = 18;
+
+pub const UNDEFINED: u8 = 19;
+
+pub const MISALIGNED: u8 = 20;
+
+// It completed, it met HALT, it stopped, or check 1 refused the memory.
 pub enum Outcome {
     Completed,
     Halted,

@@ -17,7 +17,7 @@ use Rattle.isa.specs.declared.instruction.Instruction.the-variants.{MovImm, Cmp
 use Rattle.cpu.specs.declared.machine.Machine.{Machine}
 use Rattle.cpu.specs.declared.outcome.Outcome.the-variants.{Refused}
 use Rattle.cpu.specs.Machine.{reg, pc, flags, machine, advanced, written}
-use Rattle.cpu.specs.Memory.{byteAt, halfwordAt, withByte, withHalfword}
+use Rattle.board.specs.Bytes.{byteAt, halfwordAt, withByte, withHalfword}
 use Rattle.cpu.specs.Alu.{negative, shiftedOf, shiftOf, conditionOf}
 use Rattle.cpu.specs.Step.{State, StepResult, stepResult, completed, stopped, effectiveAddress, aligned, addHighOf, addPcOf, andOf, asrOf, branchOf, cmpImmOf, cmpOf, cmpHighOf, eorOf, ldrOf, ldrbOf, movImmOf, movHighOf, negOf, strOf, strbOf, tstOf, executeOf, executeDecoded, fetched, fetchAndExecute, stepOf}
 use Rattle.cpu.specs.Run.{nextState, stateAfter}

@@ -1,19 +1,10 @@
 -- A block of a file and its fields ("Image blocks", the table).
-use mathlib.Core.Bool.{cond}
 use mathlib.Core.List.{List}
-use Prim.Native.Nat.{ℕ, zero, suc, _+_, _*_, _/_, _%_}
-use lib.Dec.{eqb}
-use lib.ListN.{length, getD, take, drop}
+use Prim.Native.Nat.{ℕ, zero, suc, _+_, _*_, _/_}
+use lib.ListN.{length, take, drop}
 use Rattle.board.specs.Address.{wrap}
+use Rattle.board.specs.Bytes.{halfwordAt}
 use Rattle.image.specs.Format.{blockBytes, blockHalfwords, headerHalfwords}
-
--- the halfword at byte p of some bytes, low byte first
-abbrev pub halfwordAt : List ℕ → ℕ → ℕ
-halfwordAt bytes p = getD bytes p 0 + 256 * getD bytes (p + 1) 0
-
--- a halfword's byte 0 and byte 1: the low one first
-unfoldable pub byteOf : ℕ → ℕ → ℕ
-byteOf h i = cond (eqb i 0) (h % 256) (h / 256)
 
 -- how many blocks a file has, and block k's bytes
 abbrev pub blocksIn : List ℕ → ℕ

@@ -1,8 +1,9 @@
 -- The code of a file ("Image blocks"): what its blocks hold, one after the other.
 use mathlib.Core.List.{List}
 use Prim.Native.Nat.{ℕ, _+_, _-_, _*_, _/_, _%_}
+use Rattle.board.specs.Bytes.{halfwordAt}
 use Rattle.image.specs.Format.{blockBytes, blockCode, headerBytes, tabulate}
-use Rattle.image.specs.Block.{halfwordAt, blocksIn, blockOf, usedOf}
+use Rattle.image.specs.Block.{blocksIn, blockOf, usedOf}
 
 -- where in the file code halfword i starts: every block before its own is full
 abbrev pub codePosition : ℕ → ℕ

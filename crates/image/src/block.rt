@@ -1,19 +1,12 @@
 // A block of a file: its bytes, its fields and its sum.
 use super::format::BLOCK_BYTES;
 use super::format::BLOCK_HALFWORDS;
+use board::halfword_at;
 ghost use mathlib.Core.Path.{_≡_};
 ghost use Prim.Native.Nat.{_+_, _*_, _<_, _≤_};
 ghost use lib.ListN.{length};
 ghost use Rattle.image.specs.Format.{blockBytes, blockHalfwords};
-ghost use Rattle.image.specs.Block.{halfwordAt, blockOf, halfword, addedTo, sumOf};
-
-// The halfword at byte `p`, low byte first.
-pub(crate) fn halfword_at(bytes: &[u8], p: usize) -> u16
-    requires { ⌜ p + 2 ≤ length (now bytes) ⌝ }
-    ensures { λ r. ⌜ r ≡ halfwordAt (now (bytes .entry)) p ⌝ }
-{
-    (bytes[p] as u16) + 256 * (bytes[p + 1] as u16)
-}
+ghost use Rattle.image.specs.Block.{blockOf, halfword, addedTo, sumOf};
 
 // The bytes of block `k`.
 pub(crate) fn block_part(file: &[u8], k: usize) -> &[u8]

@@ -1,9 +1,9 @@
 // The code of a file, by the number of the instruction.
-use super::block::halfword_at;
 use super::format::BLOCK_BYTES;
 use super::format::BLOCK_CODE;
 use super::format::HEADER_BYTES;
 use board::InstructionIndex;
+use board::halfword_at;
 ghost use mathlib.Core.Path.{_≡_};
 ghost use Prim.Native.Nat.{_+_, _≤_};
 ghost use lib.ListN.{length};

@@ -1,4 +1,4 @@
--- Sums, unused halfwords and bytes, without a word of images.
+-- Sums, unused halfwords and places, without a word of images.
 use mathlib.Core.Bool.{Bool, true, false, _&&_}
 use mathlib.Core.Logic.{_⊎_, inl, inr, ⊎-elim}
 use mathlib.Core.Path.{_≡_, refl, ap, ap₂, _∙_}
@@ -39,16 +39,6 @@ unused-each block used (suc n) m e h =
     (λ q. ap (λ (x : ℕ). codeHalfword block (used + x)) q ∙ eqb-true (codeHalfword block (used + n)) 0 (and-right (unusedZero block used n) (eqb (codeHalfword block (used + n)) 0) e))
     (λ lt. unused-each block used n m (and-left (unusedZero block used n) (eqb (codeHalfword block (used + n)) 0) e) lt)
     (eq-or-lt-of-le {n = m} {m = n} (omega arith))
-
--- a halfword from its bytes, and its bytes from the halfword
-pub rejoined : (h : ℕ) → h % 256 + 256 * (h / 256) ≡ h
-rejoined h = omega arith
-
-pub low-byte : (a b : ℕ) → a < 256 → (a + 256 * b) % 256 ≡ a
-low-byte a b h = omega arith
-
-pub high-byte : (a b : ℕ) → a < 256 → (a + 256 * b) / 256 ≡ b
-high-byte a b h = omega arith
 
 -- a byte's place from its block, its halfword and which of the two it is
 pub half-less : (r : ℕ) → r < 512 → r / 2 < 256

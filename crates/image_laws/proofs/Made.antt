@@ -10,9 +10,11 @@ use borrow.Author.Tests.{eq-eqb, ne-eqb, le-leb, le-ltb}
 use lib.Dec.{eqb}
 use lib.ListN.{length, getD, List·getD-eq-default}
 use lib.Seq.{ext-getD}
+use Rattle.board.proofs.Halves.{rejoined}
+use Rattle.board.specs.Bytes.{halfwordAt}
 use Rattle.board.specs.Address.{wrap}
 use Rattle.image.specs.Format.{blockHalfwords, blockCode, headerHalfwords, mostCode}
-use Rattle.image.specs.Block.{halfwordAt, blocksIn, blockOf, halfword, usedOf, codeHalfword, sumBelow, sumOf}
+use Rattle.image.specs.Block.{blocksIn, blockOf, halfword, usedOf, codeHalfword, sumBelow, sumOf}
 use Rattle.image.specs.Code.{codeAt, codeLength, codeOf}
 use Rattle.image.specs.Check.{whole, firstNo, check2, check3, check4, check5, check6, check7, check8, usedRight, unusedZero, blockChecks, checksBelow, layoutOf, layoutFits, checkedAs, checkOf}
 use Rattle.packer.specs.Pack.{blocksNeeded, usedIn, bodyHalfword, balanceOf, imageHalfword, imageOf}
@@ -24,7 +26,7 @@ use Rattle.image.proofs.Answers.{orElse, first-append, passed-head, next}
 use Rattle.packer.proofs.Images.{image-length, image-low, image-high, body-at, balance-at, sum-less}
 use Rattle.image.proofs.Valid.{code-length, code-halfword}
 use Rattle.image_laws.specs.Claims.{layout}
-use Rattle.image_laws.proofs.Halves.{sum-same, unused-all, rejoined, sum-back}
+use Rattle.image_laws.proofs.Halves.{sum-same, unused-all, sum-back}
 
 -- the last block of n halfwords ends the code, and a block before it is full
 used-right : (n k : ℕ) → k < blocksNeeded n → usedRight (eqb (k + 1) (blocksNeeded n)) (usedIn n k) ≡ true
@@ -47,8 +49,7 @@ module _ (code : List ℕ) (w l : ℕ) where
     block-at : (j : ℕ) → j < blockHalfwords → halfword (blockOf (imageOf code w l) k) j ≡ imageHalfword code w l k j
     block-at j hj =
         block-halfword (imageOf code w l) k j hj
-        ∙ ap₂ (λ (a b : ℕ). a + 256 * b) (image-low code w l k j hk hj) (image-high code w l k j hk hj)
-        ∙ rejoined (imageHalfword code w l k j)
+        ∙ rejoined (imageHalfword code w l k j) _ _ (image-low code w l k j hk hj) (image-high code w l k j hk hj)
 
     header-at : (j : ℕ) → j < headerHalfwords → halfword (blockOf (imageOf code w l) k) j ≡ bodyHalfword code w l k j
     header-at j hj = block-at j (omega arith) ∙ body-at code w l k j (omega arith)

@@ -1,19 +1,11 @@
 // What a load does to memory.
 use board::InstructionIndex;
+use board::put_halfword;
 ghost use mathlib.Core.Path.{_≡_};
 ghost use Prim.Native.Nat.{ℕ, _+_, _*_, _≤_, _<_};
 ghost use lib.ListN.{length, replicate};
 ghost use Rattle.image.specs.Code.{codePosition};
-ghost use Rattle.loader.specs.Copy.{withHalfword, withCode, cleared};
-
-// Stores a halfword, low byte first.
-fn put_halfword(memory: &mut [u8], at: usize, h: u16)
-    requires { ⌜ at + 1 < length (now memory) ⌝ }
-    ensures { λ _. ⌜ now (memory .exit) ≡ withHalfword (now (memory .entry)) at h ⌝ }
-{
-    memory[at] = (h % 256) as u8;
-    memory[at + 1] = (h / 256) as u8;
-}
+ghost use Rattle.loader.specs.Copy.{withCode, cleared};
 
 // Copies the first `count` instructions of a file to address 0.
 pub(crate) fn copy_code(file: &[u8], memory: &mut [u8], count: u16)

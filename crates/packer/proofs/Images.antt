@@ -5,9 +5,10 @@ use Prim.Native.Nat.{ℕ, zero, suc, _+_, _-_, _*_, _/_, _%_, _<_}
 use native.Mathlib.Omega.{arith}
 use borrow.Author.Tests.{lt-ltb}
 use lib.ListN.{length, getD, take, set}
+use Rattle.board.specs.Bytes.{byteOf}
 use Rattle.board.specs.Address.{wrap}
 use Rattle.image.specs.Format.{blockBytes, blockHalfwords}
-use Rattle.image.specs.Block.{byteOf, sumBelow}
+use Rattle.image.specs.Block.{sumBelow}
 use Rattle.packer.specs.Pack.{blocksNeeded, bodyHalfword, balanceOf, imageHalfword, imageByte, imageOf}
 use Rattle.image.proofs.Lists.{length-tabulate, tabulate-at}
 use Rattle.packer.proofs.Overwriting.{two-more}

@@ -1,12 +1,13 @@
 // The image of a code, put into bytes.
+use board::put_halfword;
 use image::BLOCK_BYTES;
 use image::BLOCK_CODE;
 use image::BLOCK_HALFWORDS;
 use image::HEADER_HALFWORDS;
 use image::MARK;
 ghost use mathlib.Core.Path.{_≡_};
-ghost use Prim.Native.Nat.{_+_, _*_, _/_, _%_, _<_, _≤_};
-ghost use lib.ListN.{length, getD, set, take};
+ghost use Prim.Native.Nat.{_+_, _*_, _/_, _<_, _≤_};
+ghost use lib.ListN.{length, getD, take};
 ghost use Rattle.image.specs.Format.{blockBytes, blockHalfwords, headerHalfwords, mostCode};
 ghost use Rattle.packer.specs.Pack.{blocksNeeded, usedIn, headerOf, bodyHalfword, imageOf};
 
@@ -56,15 +57,6 @@ fn body_halfword(code: &[u16], w: u16, l: u16, k: usize, j: usize) -> u16
     }
     let i = BLOCK_CODE * k + (j - HEADER_HALFWORDS);
     if i < code.len() { code[i] } else { 0 }
-}
-
-// Stores a halfword at byte `p`, low byte first.
-fn put_halfword(out: &mut [u8], p: usize, h: u16)
-    requires { ⌜ p + 2 ≤ length (now out) ⌝ }
-    ensures { λ _. ⌜ now (out .exit) ≡ set (set (now (out .entry)) p (h % 256)) (p + 1) (h / 256) ⌝ }
-{
-    out[p] = (h % 256) as u8;
-    out[p + 1] = (h / 256) as u8;
 }
 
 // Writes block `k`, after the blocks before it.

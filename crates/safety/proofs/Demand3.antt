@@ -7,7 +7,7 @@ use native.Mathlib.Omega.{arith}
 use borrow.Author.Tests.{eq-eqb}
 use lib.ListN.{length, getD, getD-replicate}
 use Rattle.board.specs.Address.{memoryBytes}
-use Rattle.image.specs.Block.{byteOf}
+use Rattle.board.proofs.Halves.{rejoined}
 use Rattle.image.specs.Code.{codeOf}
 use Rattle.image.specs.declared.checker.Layout.{Layout}
 use Rattle.domain.specs.Value.{unknownOf}
@@ -19,7 +19,7 @@ use Rattle.cpu.specs.declared.outcome.Outcome.the-variants.{Completed, Halted}
 use Rattle.cpu.specs.declared.runner.RunOutcome.{RunOutcome}
 use Rattle.cpu.specs.declared.runner.RunOutcome.the-variants as run
 use Rattle.cpu.specs.Machine.{reg}
-use Rattle.cpu.specs.Memory.{byteAt}
+use Rattle.board.specs.Bytes.{byteAt, byteOf}
 use Rattle.cpu.specs.Step.{State}
 use Rattle.cpu.specs.Run.{nextState, stateAfter, runFrom, runOf}
 use Rattle.loader.specs.Load.{codeByte}
@@ -31,9 +31,6 @@ use Rattle.safety.proofs.Loads.{was-fit, after-load, loaded-holds}
 use Rattle.safety.proofs.Twins.{apart, same-runs}
 
 -- byte by byte is halfword by halfword
-halves : (h lo hi : ℕ) → lo ≡ h % 256 → hi ≡ h / 256 → lo + hi * 256 ≡ h
-halves h lo hi p q = omega arith
-
 holds-halfwords : (file : List ℕ) (layout : Layout) (memory : List ℕ) → layout .«code_bytes» ≡ 2 * length (codeOf file) → HoldsCode file layout memory → HoldsHalfwords (codeOf file) memory
 unfolding codeByte byteOf
 holds-halfwords file layout memory size h i hi =
@@ -41,7 +38,7 @@ holds-halfwords file layout memory size h i hi =
     let b : 2 * i % 2 ≡ 0 = omega arith in
     let c : (2 * i + 1) / 2 ≡ i = omega arith in
     let d : (2 * i + 1) % 2 ≡ 1 = omega arith in
-    halves (getD (codeOf file) i 0) (byteAt memory (2 * i)) (byteAt memory (2 * i + 1))
+    rejoined (getD (codeOf file) i 0) (byteAt memory (2 * i)) (byteAt memory (2 * i + 1))
     (h .code (2 * i) (omega (arith, size)) ∙ simp (a, b))
     (h .code (2 * i + 1) (omega (arith, size)) ∙ simp (c, d))
 

@@ -24,7 +24,7 @@ use Rattle.verifier.specs.declared.branch.Target.the-variants.{To}
 use Rattle.cpu.specs.declared.machine.Machine.{Machine}
 use Rattle.cpu.specs.declared.outcome.Outcome.the-variants.{Completed, Halted}
 use Rattle.cpu.specs.Machine.{pc}
-use Rattle.cpu.specs.Memory.{byteAt, halfwordAt}
+use Rattle.board.specs.Bytes.{byteAt, halfwordAt}
 use Rattle.cpu.specs.Step.{State, executeOf, fetched, fetchAndExecute, stepOf}
 use Rattle.safety.specs.Safety.{InWindow, SafeAccess}
 use Rattle.safety.proofs.Registers.{Sized, HoldsBelow, Moved, standing-holds}

@@ -12,13 +12,12 @@ use Rattle.board.specs.Address.{memoryBytes}
 use Rattle.board.specs.Refusal.{refusal}
 use Rattle.image.proofs.Lists.{length-tabulate, tabulate-at}
 use Rattle.image.proofs.Valid.{code-halfword, code-fits}
-use Rattle.image.specs.Block.{byteOf}
 use Rattle.image.specs.Code.{codeOf}
 use Rattle.image.specs.declared.checker.Layout.{Layout}
 use Rattle.verifier.specs.Verify.{verifyOf}
 use Rattle.verifier.specs.declared.verifier.Verdict.{Verdict}
 use Rattle.verifier.specs.declared.verifier.Verdict.the-variants as verdict
-use Rattle.cpu.specs.Memory.{byteAt}
+use Rattle.board.specs.Bytes.{byteAt, byteOf}
 use Rattle.loader.specs.Load.{codeByte, inWindow, loadedByte, loadedMemory, loadedAs, loadOf, memoryAs, memoryAfterLoad}
 use Rattle.loader.specs.declared.loader.Loaded.{Loaded}
 use Rattle.loader.specs.declared.loader.Loaded.the-variants.{Done, Refused}

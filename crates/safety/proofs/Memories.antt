@@ -13,7 +13,7 @@ use Rattle.verifier.specs.Access.{accessOf}
 use Rattle.cpu.specs.declared.machine.Machine.{Machine}
 use Rattle.cpu.specs.declared.outcome.Outcome.{Outcome}
 use Rattle.cpu.specs.Machine.{reg, flags, machine, written}
-use Rattle.cpu.specs.Memory.{byteAt, halfwordAt, withByte, withHalfword}
+use Rattle.board.specs.Bytes.{byteAt, halfwordAt, withByte, withHalfword}
 use Rattle.cpu.specs.Step.{StepResult, stepResult, completed, effectiveAddress, executeOf, ldrOf, ldrbOf, strOf, strbOf}
 use Rattle.safety.specs.Safety.{InWindow, SafeAccess, SameWindow}
 use Rattle.safety.proofs.Lists.{set-below, set-alike}

@@ -25,7 +25,7 @@ use Rattle.cpu.specs.declared.machine.Machine.{Machine}
 use Rattle.cpu.specs.Machine.{Flags}
 use Rattle.cpu.specs.declared.outcome.Outcome.the-variants.{Completed}
 use Rattle.cpu.specs.Machine.{reg, pc, flags, machine, advanced, written}
-use Rattle.cpu.specs.Memory.{byteAt, halfwordAt}
+use Rattle.board.specs.Bytes.{byteAt, halfwordAt}
 use Rattle.cpu.specs.Alu.{negative, shiftOf, shiftedOf, conditionOf}
 use Rattle.cpu.specs.Step.{StepResult, completed, effectiveAddress, executeOf, addHighOf, addPcOf, andOf, asrOf, branchOf, cmpImmOf, cmpOf, cmpHighOf, eorOf, ldrOf, ldrbOf, movImmOf, movHighOf, negOf, strOf, strbOf, tstOf}
 use Rattle.safety.proofs.Registers.{Sized, HoldsBelow, Moved, jumped, on, wrote}

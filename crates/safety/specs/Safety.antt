@@ -15,7 +15,7 @@ use Rattle.cpu.specs.declared.machine.Machine.{Machine}
 use Rattle.cpu.specs.declared.outcome.Outcome.the-variants as step
 use Rattle.cpu.specs.declared.runner.RunOutcome.the-variants as run
 use Rattle.cpu.specs.Machine.{reg, pc}
-use Rattle.cpu.specs.Memory.{byteAt}
+use Rattle.board.specs.Bytes.{byteAt}
 use Rattle.cpu.specs.Step.{State, effectiveAddress, fetched, stepOf}
 use Rattle.cpu.specs.Run.{RunResult, stateAfter, runOf}
 use Rattle.loader.specs.Load.{codeByte, loadOf, memoryAfterLoad}

@@ -2,9 +2,10 @@
 use mathlib.Core.List.{List}
 use mathlib.Core.Path.{refl}
 use Prim.Native.Nat.{ℕ}
+use Rattle.board.specs.Bytes.{byteOf}
 use Rattle.cpu.specs.Step.{executeOf, addHighOf, addPcOf, asrOf, cmpImmOf, negOf}
 use Rattle.cpu.specs.Machine.{Flags}
-use Rattle.image.specs.Block.{byteOf, blockOf, sumBelow}
+use Rattle.image.specs.Block.{blockOf, sumBelow}
 use Rattle.image.specs.Check.{firstNo, check2, check3, check4, check5, unusedZero, check6, check7, check8, checksBelow, layoutOf, checkOf}
 use Rattle.image.specs.Code.{codeAt, codeLength, codeOf}
 use Rattle.image.specs.Format.{tabulateFrom}

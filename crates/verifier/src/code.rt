@@ -3,9 +3,7 @@
 use image::BLOCK_BYTES;
 use image::HEADER_BYTES;
 ghost use mathlib.Core.Path.{_≡_};
-ghost use Prim.Native.Nat.{_+_, _≤_, _<_};
-ghost use lib.ListN.{length};
-ghost use Rattle.image.specs.Block.{halfwordAt};
+ghost use Prim.Native.Nat.{_+_, _<_};
 ghost use Rattle.verifier.specs.Position.{positionAfter};
 
 // Where the first halfword stands, behind the header of block 0.
@@ -16,14 +14,6 @@ pub const FIRST_POSITION: usize = HEADER_BYTES;
 const LAST_IN_BLOCK: usize = BLOCK_BYTES - 4;
 
 const GAP: usize = 4 + HEADER_BYTES;
-
-// The halfword at byte `p`, low byte first.
-pub(crate) fn halfword_at(file: &[u8], p: usize) -> u16
-    requires { ⌜ p + 2 ≤ length (now file) ⌝ }
-    ensures { λ r. ⌜ r ≡ halfwordAt (now (file .entry)) p ⌝ }
-{
-    (file[p] as u16) + 256 * (file[p + 1] as u16)
-}
 
 // Where the code halfword after the one at byte `p` stands.
 pub(crate) fn position_after(p: usize) -> usize

@@ -2,10 +2,10 @@
 use super::branch::Target;
 use super::branch::jump;
 use super::code::FIRST_POSITION;
-use super::code::halfword_at;
 use super::code::position_after;
 use board::ByteAddress;
 use board::InstructionIndex;
+use board::halfword_at;
 use image::Checked;
 use image::Layout;
 ghost use mathlib.Core.Bool.{_||_};

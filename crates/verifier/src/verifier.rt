@@ -1,6 +1,5 @@
 // The walk over a code, and the verdict on a file.
 use super::code::FIRST_POSITION;
-use super::code::halfword_at;
 use super::code::position_after;
 use super::marks::is_marked;
 use super::marks::mark_targets;
@@ -13,6 +12,7 @@ use board::ByteAddress;
 use board::InstructionIndex;
 use board::Place;
 use board::Refusal;
+use board::halfword_at;
 use image::Checked;
 use image::Layout;
 ghost use mathlib.Core.Path.{_≡_};

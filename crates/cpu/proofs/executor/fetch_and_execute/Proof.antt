@@ -14,4 +14,4 @@ fetch-and-execute-spec =
     (λ c κs. search needs)
     (λ c κs. search needs)
     (λ c. search needs)
-    (λ c. even (c .before .before .before .before .before .before .before .before .before .before .before .args .regs .now) (c .before .before .before .before .before .before .before .before .before .before .before .args .memory .now) (c .before .before .before .before .before .before .before .before .before .before .before .args .k) (c .before .before .before .before .before .before .before .before .before .before .before .pre .0) _ _ _ (c .before .before .execute .result) (c .before .before .before .before .before .before .before .before .if1 .left) (c .before .before .before .before .before .load-halfword .ensures) (c .before .before .execute .ensures)))
+    (λ c. even (c .before .before .before .before .before .before .before .before .before .before .before .args .regs .now) (c .before .before .before .before .before .before .before .before .before .before .before .args .memory .now) (c .before .before .before .before .before .before .before .before .before .before .before .args .k) (c .before .before .before .before .before .before .before .before .before .before .before .pre .0) _ _ _ (c .before .before .execute .result) (c .before .before .before .before .before .before .before .before .if1 .left) (c .before .before .before .before .before .halfword-at .ensures) (c .before .before .execute .ensures)))

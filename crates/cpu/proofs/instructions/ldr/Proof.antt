@@ -19,4 +19,4 @@ ldr-spec =
     (λ c κs. search needs)
     (λ c κs. search needs)
     (λ c κs. search needs)
-    (λ c. ldr-completes (c .before .before .before .before .before .before .before .before .before .args .regs .now) (c .before .before .before .before .before .before .before .before .before .args .memory .now) (c .before .before .before .before .before .before .before .before .before .args .k) (c .before .before .before .before .before .before .before .before .before .args .offset) (c .before .before .before .before .before .before .before .before .before .args .rb) (c .before .before .before .before .before .before .before .before .before .args .rd) _ (c .completed .result) (c .before .before .before .before .before .before .before .before .before .pre .0) (search needs) (c .before .before .before .before .before .before .effective-address .ensures) (c .before .before .before .before .before .if1 .left) _ (c .before .write-low .result) _ (c .completed .ensures) (c .before .before .before .before .load-halfword .ensures) (simp (c .before .before .status-in .ensures) at (c .before .write-low .ensures))))
+    (λ c. ldr-completes (c .before .before .before .before .before .before .before .before .before .args .regs .now) (c .before .before .before .before .before .before .before .before .before .args .memory .now) (c .before .before .before .before .before .before .before .before .before .args .k) (c .before .before .before .before .before .before .before .before .before .args .offset) (c .before .before .before .before .before .before .before .before .before .args .rb) (c .before .before .before .before .before .before .before .before .before .args .rd) _ (c .completed .result) (c .before .before .before .before .before .before .before .before .before .pre .0) (search needs) (c .before .before .before .before .before .before .effective-address .ensures) (c .before .before .before .before .before .if1 .left) _ (c .before .write-low .result) _ (c .completed .ensures) (c .before .before .before .before .halfword-at .ensures) (simp (c .before .before .status-in .ensures) at (c .before .write-low .ensures))))

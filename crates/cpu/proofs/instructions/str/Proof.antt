@@ -23,4 +23,4 @@ str-spec =
     (λ c κs. search needs)
     (λ c κs. search needs)
     (λ c. search needs)
-    (λ c. str-completes (c .before .before .before .before .before .before .before .before .before .before .before .before .args .regs .now) (c .before .before .before .before .before .before .before .before .before .before .before .before .args .memory .now) (c .before .before .before .before .before .before .before .before .before .before .before .before .args .k) (c .before .before .before .before .before .before .before .before .before .before .before .before .args .offset) (c .before .before .before .before .before .before .before .before .before .before .before .before .args .rb) (c .before .before .before .before .before .before .before .before .before .before .before .before .args .rd) _ (c .completed .result) (c .before .before .before .before .before .before .before .before .before .before .before .before .pre .0) (search needs) (c .before .before .before .before .before .before .before .before .before .effective-address .ensures) (search needs) (c .before .before .before .before .before .before .before .before .if1 .left) _ (c .completed .ensures .0 ∙ (c .before .advance .ensures ∙ rw (c .before .before .status-in .ensures)), c .completed .ensures .1) (c .before .before .before .before .before .store-halfword .ensures)))
+    (λ c. str-completes (c .before .before .before .before .before .before .before .before .before .before .before .before .args .regs .now) (c .before .before .before .before .before .before .before .before .before .before .before .before .args .memory .now) (c .before .before .before .before .before .before .before .before .before .before .before .before .args .k) (c .before .before .before .before .before .before .before .before .before .before .before .before .args .offset) (c .before .before .before .before .before .before .before .before .before .before .before .before .args .rb) (c .before .before .before .before .before .before .before .before .before .before .before .before .args .rd) _ (c .completed .result) (c .before .before .before .before .before .before .before .before .before .before .before .before .pre .0) (search needs) (c .before .before .before .before .before .before .before .before .before .effective-address .ensures) (search needs) (c .before .before .before .before .before .before .before .before .if1 .left) _ (c .completed .ensures .0 ∙ (c .before .advance .ensures ∙ rw (c .before .before .status-in .ensures)), c .completed .ensures .1) (c .before .before .before .before .before .put-halfword .ensures)))

@@ -2,11 +2,11 @@
 use native.Mathlib.Omega.{arith}
 use borrow.Author.Needs.{needs}
 use lib.ListN.{length-set}
-use Rattle.packer.proofs.writer.put_halfword.Statement.{statement}
-use Rattle.packer.proofs.writer.put_halfword.Tie as tie
+use Rattle.board.proofs.bytes.put_halfword.Statement.{statement}
+use Rattle.board.proofs.bytes.put_halfword.Tie as tie
 
-slice-write-out-2 : tie.Need-slice-write-out-2
-slice-write-out-2 c = simp length-set (omega arith)
+slice-write-bytes-2 : tie.Need-slice-write-bytes-2
+slice-write-bytes-2 c = simp length-set (omega arith)
 
 pub put-halfword-spec : {M : Type 1} → statement M
 put-halfword-spec =
@@ -16,6 +16,6 @@ put-halfword-spec =
     (λ c. search needs)
     (λ c. search needs)
     (λ c. search needs)
-    slice-write-out-2
+    slice-write-bytes-2
     (λ c. search needs)
     (λ c. search needs))

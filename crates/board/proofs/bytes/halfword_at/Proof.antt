@@ -1,9 +1,9 @@
--- Two bytes are read and put together; each is below 256, so that their halfword fits.
+-- Two bytes fit 16 bits, the second 256 times.
+use Prim.Native.Nat.{_+_}
 use native.Mathlib.Omega.{arith}
 use borrow.Author.Needs.{needs}
-use Rattle.image.proofs.block.halfword_at.Statement.{statement}
-use Rattle.image.proofs.block.halfword_at.Tie as tie
-use Prim.Native.Nat.{_+_}
+use Rattle.board.proofs.bytes.halfword_at.Statement.{statement}
+use Rattle.board.proofs.bytes.halfword_at.Tie as tie
 
 pub halfword-at-spec : {M : Type 1} → statement M
 halfword-at-spec =
@@ -15,5 +15,5 @@ halfword-at-spec =
     (λ c. search needs)
     (λ c. omega (arith, c .shared-slice-known2 .given (c .before .before .args .p + 1)))
     (λ c. omega (arith, c .shared-slice-known2 .given (c .before .before .args .p + 1)))
-    (λ c. omega (arith, c .shared-slice-known2 .given (c .before .before .args .p), c .shared-slice-known2 .given (c .before .before .args .p + 1)))
+    (λ c. omega (arith, c .before .shared-slice-known .given (c .before .before .args .p), c .shared-slice-known2 .given (c .before .before .args .p + 1)))
     (λ c. search needs))
