@@ -5,13 +5,13 @@ use mathlib.Core.Path.{_≡_, refl}
 use lib.ListN.{getD, set}
 use borrow.Author.Tests.{eq-eqb, ne-eqb}
 use Rattle.board.specs.Address.{wrap}
+use Rattle.board.specs.Bytes.{halfwordAt, withByte, withHalfword}
 use Rattle.cpu.specs.declared.held.Control.{Control}
 use Rattle.cpu.specs.declared.held.Executed.{Executed}
 use Rattle.cpu.specs.declared.machine.Machine.{Machine}
 use Rattle.cpu.specs.declared.outcome.Outcome.{Outcome}
 use Rattle.cpu.specs.declared.outcome.Outcome.the-variants.{Completed, Stopped}
 use Rattle.cpu.specs.Machine.{machine, advanced, written}
-use Rattle.board.specs.Bytes.{halfwordAt, withByte, withHalfword}
 use Rattle.cpu.specs.Step.{stepResult, ldrOf, strOf, strbOf}
 use Rattle.cpu.specs.Held.{statusIn, flagsIn, held, control, Whole, Holds, Leads}
 use Rattle.cpu.proofs.Ends.{low-is, advance-holds}

@@ -3,11 +3,11 @@ use Prim.Native.Nat.{ℕ, _%_}
 use mathlib.Core.List.{List}
 use mathlib.Core.Path.{_≡_}
 use borrow.Author.Tests.{eq-eqb, ne-eqb}
+use Rattle.board.specs.Bytes.{halfwordAt}
 use Rattle.isa.specs.Decode.{decodeOf}
 use Rattle.cpu.specs.declared.held.Control.{Control}
 use Rattle.cpu.specs.declared.held.Executed.{Executed}
 use Rattle.cpu.specs.declared.outcome.Outcome.the-variants.{Stopped}
-use Rattle.board.specs.Bytes.{halfwordAt}
 use Rattle.cpu.specs.Step.{executeDecoded, fetched, fetchAndExecute}
 use Rattle.cpu.specs.Held.{held, Whole, Leads}
 use Rattle.cpu.proofs.Ends.{pc-is}

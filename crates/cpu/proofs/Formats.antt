@@ -8,8 +8,8 @@ use lib.Seq.{set-set}
 use borrow.Author.Tests.{eq-eqb, ne-eqb, lt-ltb}
 use Rattle.board.specs.Address.{wrap, branchTargetOf}
 use Rattle.board.specs.Field.{field}
-use Rattle.isa.specs.Decode.{entry, immTable, haltOf, registersTable, registersOf, memoryTable, branchOf, decodeOf}
 use Rattle.board.specs.declared.address.ByteAddress.{ByteAddress}
+use Rattle.isa.specs.Decode.{entry, immTable, haltOf, registersTable, registersOf, memoryTable, branchOf, decodeOf}
 use Rattle.isa.specs.declared.decoder.Decoded.{Decoded}
 use Rattle.isa.specs.declared.decoder.Decoded.the-variants.{Defined, Undefined}
 use Rattle.isa.specs.declared.instruction.Instruction.{Instruction}

@@ -6,8 +6,9 @@ use lib.Bits.{bitAnd, bitXor}
 use lib.Dec.{eqb}
 use lib.ListN.{length, set}
 use Rattle.board.specs.Address.{wrap, branchTargetOf, memoryBytes}
-use Rattle.isa.specs.Decode.{decodeOf}
 use Rattle.board.specs.Refusal.{refusal}
+use Rattle.board.specs.Bytes.{byteAt, halfwordAt, withByte, withHalfword}
+use Rattle.isa.specs.Decode.{decodeOf}
 use Rattle.isa.specs.declared.decoder.Decoded.{Decoded}
 use Rattle.isa.specs.declared.decoder.Decoded.the-variants.{Defined, Undefined}
 use Rattle.isa.specs.declared.instruction.Instruction.{Instruction}
@@ -16,7 +17,6 @@ use Rattle.cpu.specs.declared.machine.Machine.{Machine}
 use Rattle.cpu.specs.declared.outcome.Outcome.{Outcome}
 use Rattle.cpu.specs.declared.outcome.Outcome.the-variants.{Completed, Halted, Stopped, Refused}
 use Rattle.cpu.specs.Machine.{reg, pc, flags, machine, advanced, written}
-use Rattle.board.specs.Bytes.{byteAt, halfwordAt, withByte, withHalfword}
 use Rattle.cpu.specs.Alu.{resultFlags, sumOf, sumFlags, differenceOf, differenceFlags, shiftOf, shiftFlags, conditionOf}
 
 -- a machine and the memory beside it

@@ -8,6 +8,7 @@ use lib.Dec.{eqb}
 use lib.ListN.{length}
 use Rattle.board.specs.Address.{memoryBytes}
 use Rattle.board.specs.Refusal.{refusal}
+use Rattle.board.specs.Bytes.{halfwordAt, withHalfword}
 use Rattle.isa.specs.declared.decoder.Decoded.{Decoded}
 use Rattle.isa.specs.declared.decoder.Decoded.the-variants.{Defined, Undefined}
 use Rattle.isa.specs.declared.instruction.Instruction.{Instruction}
@@ -15,7 +16,6 @@ use Rattle.isa.specs.declared.instruction.Instruction.the-variants.{MovImm, Cmp
 use Rattle.cpu.specs.declared.machine.Machine.{Machine}
 use Rattle.cpu.specs.declared.outcome.Outcome.the-variants.{Completed, Refused}
 use Rattle.cpu.specs.Machine.{pc, flags, machine, advanced, written, reg}
-use Rattle.board.specs.Bytes.{halfwordAt, withHalfword}
 use Rattle.cpu.specs.Step.{State, StepResult, stepResult, completed, stopped, effectiveAddress, aligned, ldrOf, strOf, strbOf, executeOf, executeDecoded, fetched, fetchAndExecute, stepOf}
 
 -- what holds of both arms of a test holds of the test's

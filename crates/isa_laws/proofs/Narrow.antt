@@ -4,11 +4,11 @@ use native.Mathlib.Omega.{arith}
 use mathlib.Core.Bool.{Bool, true, false}
 use mathlib.Core.List.{List, [], _∷_}
 use mathlib.Core.Path.{_≡_, subst⁻¹}
+use Rattle.board.specs.Field.{field, highRs, highRd}
 use Rattle.isa.specs.declared.decoder.Decoded.{Decoded}
 use Rattle.isa.specs.declared.decoder.Decoded.the-variants.{Defined, Undefined}
 use Rattle.isa.specs.declared.instruction.Instruction.{Instruction}
 use Rattle.isa.specs.declared.instruction.Instruction.the-variants.{MovImm, CmpImm, And, Eor, Asr, Tst, Neg, Cmp, AddHigh, CmpHigh, MovHigh, Str, Ldr, Strb, Ldrb, AddPc, Branch, Halt}
-use Rattle.board.specs.Field.{field, highRs, highRd}
 use Rattle.isa.specs.Decode.{entry, only, decodeOf, immOf, immTable, aluOf, aluTable, highOf, highTable, registersTable, memoryOf, memoryTable, branchOf, table}
 use lib.Dec.{eqb, ltb}
 

@@ -6,14 +6,14 @@ use mathlib.Core.List.{[], _∷_}
 use native.Mathlib.Omega.{arith}
 use borrow.Author.Tests.{lt-ltb, ltb-true}
 use lib.Dec.{ltb, lit<}
+use Rattle.board.specs.Field.{field}
+use Rattle.board.specs.Refusal.{refusal}
 use Rattle.isa.specs.declared.instruction.Instruction.{Instruction}
 use Rattle.isa.specs.declared.instruction.Instruction.the-variants.{Halt, MovImm, CmpImm, And, Eor, Asr, Tst, Neg, Cmp, AddHigh, CmpHigh, MovHigh, Str, Ldr, Strb, Ldrb, AddPc, Branch}
 use Rattle.isa.specs.declared.decoder.Decoded.the-variants.{Defined}
 use Rattle.isa.specs.declared.encoder.Encoded.{Encoded}
 use Rattle.isa.specs.declared.encoder.Encoded.the-variants.{Halfword, Refused}
-use Rattle.board.specs.Field.{field}
 use Rattle.isa.specs.Decode.{decodeOf, entry, only}
-use Rattle.board.specs.Refusal.{refusal}
 use Rattle.isa.specs.Encode.{encodeOf, immForm, aluForm, highForm, memoryForm, given}
 
 abbrev pub There : Instruction → Encoded → Type 0

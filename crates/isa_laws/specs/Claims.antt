@@ -2,10 +2,10 @@
 use mathlib.Core.Path.{_≡_}
 use Prim.Native.Nat.{ℕ, _*_, _<_, _≤_}
 use Rattle.board.specs.declared.address.InstructionIndex.{InstructionIndex}
+use Rattle.board.specs.Address.{byteAddressOf, instructionIndexOf}
 use Rattle.isa.specs.declared.instruction.Instruction.{Instruction}
 use Rattle.isa.specs.declared.decoder.Decoded.the-variants.{Defined}
 use Rattle.isa.specs.declared.encoder.Encoded.the-variants.{Halfword}
-use Rattle.board.specs.Address.{byteAddressOf, instructionIndexOf}
 use Rattle.isa.specs.Decode.{decodeOf}
 use Rattle.isa.specs.Encode.{encodeOf}
 use Rattle.isa.specs.Count.{definedBelow}

@@ -1,4 +1,4 @@
--- The two things that a load does to memory ("Loading").
+-- The two things that a load does to memory ("Loading"). Only the contracts of private functions speak of it.
 use mathlib.Core.List.{List, _++_}
 use Prim.Native.Nat.{ℕ, zero, suc, _-_, _*_}
 use lib.ListN.{take, drop, replicate}

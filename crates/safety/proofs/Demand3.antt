@@ -8,6 +8,7 @@ use borrow.Author.Tests.{eq-eqb}
 use lib.ListN.{length, getD, getD-replicate}
 use Rattle.board.specs.Address.{memoryBytes}
 use Rattle.board.proofs.Halves.{rejoined}
+use Rattle.board.specs.Bytes.{byteAt, byteOf}
 use Rattle.image.specs.Code.{codeOf}
 use Rattle.image.specs.declared.checker.Layout.{Layout}
 use Rattle.domain.specs.Value.{unknownOf}
@@ -19,7 +20,6 @@ use Rattle.cpu.specs.declared.outcome.Outcome.the-variants.{Completed, Halted}
 use Rattle.cpu.specs.declared.runner.RunOutcome.{RunOutcome}
 use Rattle.cpu.specs.declared.runner.RunOutcome.the-variants as run
 use Rattle.cpu.specs.Machine.{reg}
-use Rattle.board.specs.Bytes.{byteAt, byteOf}
 use Rattle.cpu.specs.Step.{State}
 use Rattle.cpu.specs.Run.{nextState, stateAfter, runFrom, runOf}
 use Rattle.loader.specs.Load.{codeByte}

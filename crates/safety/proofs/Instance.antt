@@ -5,11 +5,11 @@ use native.Mathlib.Decide.{decLt}
 use native.Mathlib.Omega.{arith}
 use lib.Dec.{T, ltb, ltb→lt}
 use lib.ListN.{length, getD, replicate, length-replicate, getD-replicate, List·getD-eq-default}
+use Rattle.board.specs.Bytes.{byteAt, byteOf}
 use Rattle.isa_laws.proofs.Every.{every, at}
 use Rattle.image.specs.Block.{sumBelow}
 use Rattle.image.specs.Format.{tabulateFrom}
 use Rattle.packer.specs.Pack.{bodyHalfword, balanceOf, imageHalfword, imageOf}
-use Rattle.board.specs.Bytes.{byteAt, byteOf}
 use Rattle.table_laws.proofs.Table.{starred-rows}
 use Rattle.table_laws.specs.Table.{nzcv}
 use Rattle.safety.specs.Instance.{imageP, layoutP, memoryP, InstanceP}

@@ -9,8 +9,9 @@ use native.Mathlib.Omega.{arith}
 use borrow.Author.Tests.{eq-eqb, ltb-true, eqb-true}
 use lib.ListN.{length, getD}
 use Rattle.board.specs.Address.{wrap}
-use Rattle.isa.specs.Decode.{decodeOf}
 use Rattle.board.specs.declared.address.ByteAddress.{ByteAddress}
+use Rattle.board.specs.Bytes.{byteAt, halfwordAt}
+use Rattle.isa.specs.Decode.{decodeOf}
 use Rattle.isa.specs.declared.decoder.Decoded.{Decoded}
 use Rattle.isa.specs.declared.decoder.Decoded.the-variants.{Defined}
 use Rattle.isa.specs.declared.instruction.Instruction.{Instruction}
@@ -24,7 +25,6 @@ use Rattle.verifier.specs.declared.branch.Target.the-variants.{To}
 use Rattle.cpu.specs.declared.machine.Machine.{Machine}
 use Rattle.cpu.specs.declared.outcome.Outcome.the-variants.{Completed, Halted}
 use Rattle.cpu.specs.Machine.{pc}
-use Rattle.board.specs.Bytes.{byteAt, halfwordAt}
 use Rattle.cpu.specs.Step.{State, executeOf, fetched, fetchAndExecute, stepOf}
 use Rattle.safety.specs.Safety.{InWindow, SafeAccess}
 use Rattle.safety.proofs.Registers.{Sized, HoldsBelow, Moved, standing-holds}

@@ -10,6 +10,7 @@ use lib.Dec.{eqb, ltb}
 use lib.ListN.{length, getD, List·getD-eq-default}
 use Rattle.board.specs.Address.{memoryBytes}
 use Rattle.board.specs.Refusal.{refusal}
+use Rattle.board.specs.Bytes.{byteAt, byteOf}
 use Rattle.image.proofs.Lists.{length-tabulate, tabulate-at}
 use Rattle.image.proofs.Valid.{code-halfword, code-fits}
 use Rattle.image.specs.Code.{codeOf}
@@ -17,7 +18,6 @@ use Rattle.image.specs.declared.checker.Layout.{Layout}
 use Rattle.verifier.specs.Verify.{verifyOf}
 use Rattle.verifier.specs.declared.verifier.Verdict.{Verdict}
 use Rattle.verifier.specs.declared.verifier.Verdict.the-variants as verdict
-use Rattle.board.specs.Bytes.{byteAt, byteOf}
 use Rattle.loader.specs.Load.{codeByte, inWindow, loadedByte, loadedMemory, loadedAs, loadOf, memoryAs, memoryAfterLoad}
 use Rattle.loader.specs.declared.loader.Loaded.{Loaded}
 use Rattle.loader.specs.declared.loader.Loaded.the-variants.{Done, Refused}

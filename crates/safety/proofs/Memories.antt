@@ -6,6 +6,7 @@ use native.Mathlib.Omega.{arith}
 use borrow.Author.Tests.{eq-eqb}
 use lib.ListN.{length, set, length-set}
 use lib.Seq.{getD-set-other}
+use Rattle.board.specs.Bytes.{byteAt, halfwordAt, withByte, withHalfword}
 use Rattle.isa.specs.declared.instruction.Instruction.{Instruction}
 use Rattle.isa.specs.declared.instruction.Instruction.the-variants.{MovImm, CmpImm, And, Eor, Asr, Tst, Neg, Cmp, AddHigh, CmpHigh, MovHigh, Str, Ldr, Strb, Ldrb, AddPc, Branch, Halt}
 use Rattle.image.specs.declared.checker.Layout.{Layout}
@@ -13,7 +14,6 @@ use Rattle.verifier.specs.Access.{accessOf}
 use Rattle.cpu.specs.declared.machine.Machine.{Machine}
 use Rattle.cpu.specs.declared.outcome.Outcome.{Outcome}
 use Rattle.cpu.specs.Machine.{reg, flags, machine, written}
-use Rattle.board.specs.Bytes.{byteAt, halfwordAt, withByte, withHalfword}
 use Rattle.cpu.specs.Step.{StepResult, stepResult, completed, effectiveAddress, executeOf, ldrOf, ldrbOf, strOf, strbOf}
 use Rattle.safety.specs.Safety.{InWindow, SafeAccess, SameWindow}
 use Rattle.safety.proofs.Lists.{set-below, set-alike}

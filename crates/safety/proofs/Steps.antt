@@ -12,6 +12,7 @@ use lib.ListN.{length, set}
 use lib.Pow.{shr-le}
 use Rattle.board.specs.Address.{wrap, branchTargetOf}
 use Rattle.board.specs.declared.address.ByteAddress.{ByteAddress}
+use Rattle.board.specs.Bytes.{byteAt, halfwordAt}
 use Rattle.isa.specs.declared.instruction.Instruction.{Instruction}
 use Rattle.isa.specs.declared.instruction.Instruction.the-variants.{MovImm, CmpImm, And, Eor, Asr, Tst, Neg, Cmp, AddHigh, CmpHigh, MovHigh, Str, Ldr, Strb, Ldrb, AddPc, Branch, Halt}
 use Rattle.domain.specs.declared.value.Value.{Value}
@@ -25,7 +26,6 @@ use Rattle.cpu.specs.declared.machine.Machine.{Machine}
 use Rattle.cpu.specs.Machine.{Flags}
 use Rattle.cpu.specs.declared.outcome.Outcome.the-variants.{Completed}
 use Rattle.cpu.specs.Machine.{reg, pc, flags, machine, advanced, written}
-use Rattle.board.specs.Bytes.{byteAt, halfwordAt}
 use Rattle.cpu.specs.Alu.{negative, shiftOf, shiftedOf, conditionOf}
 use Rattle.cpu.specs.Step.{StepResult, completed, effectiveAddress, executeOf, addHighOf, addPcOf, andOf, asrOf, branchOf, cmpImmOf, cmpOf, cmpHighOf, eorOf, ldrOf, ldrbOf, movImmOf, movHighOf, negOf, strOf, strbOf, tstOf}
 use Rattle.safety.proofs.Registers.{Sized, HoldsBelow, Moved, jumped, on, wrote}

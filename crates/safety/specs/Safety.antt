@@ -5,6 +5,7 @@ use mathlib.Core.Path.{_≡_}
 use Prim.Native.Nat.{ℕ, _+_, _%_, _≤_, _<_}
 use lib.ListN.{length}
 use Rattle.board.specs.Address.{memoryBytes}
+use Rattle.board.specs.Bytes.{byteAt}
 use Rattle.isa.specs.declared.decoder.Decoded.the-variants.{Defined}
 use Rattle.isa.specs.declared.instruction.Instruction.{Instruction}
 use Rattle.image.specs.declared.checker.Layout.{Layout}
@@ -15,7 +16,6 @@ use Rattle.cpu.specs.declared.machine.Machine.{Machine}
 use Rattle.cpu.specs.declared.outcome.Outcome.the-variants as step
 use Rattle.cpu.specs.declared.runner.RunOutcome.the-variants as run
 use Rattle.cpu.specs.Machine.{reg, pc}
-use Rattle.board.specs.Bytes.{byteAt}
 use Rattle.cpu.specs.Step.{State, effectiveAddress, fetched, stepOf}
 use Rattle.cpu.specs.Run.{RunResult, stateAfter, runOf}
 use Rattle.loader.specs.Load.{codeByte, loadOf, memoryAfterLoad}

@@ -4,8 +4,8 @@ use mathlib.Core.List.{List, [], _∷_, _++_}
 use mathlib.Core.Path.{_≡_}
 use Prim.Native.Nat.{ℕ}
 use lib.ListN.{replicate}
-use Rattle.isa.specs.Decode.{decodeOf}
 use Rattle.board.specs.Refusal.{refusalAt}
+use Rattle.isa.specs.Decode.{decodeOf}
 use Rattle.isa.specs.declared.decoder.Decoded.the-variants.{Defined, Undefined}
 use Rattle.isa.specs.declared.instruction.Instruction.the-variants.{CmpImm, Asr, Neg, AddHigh, CmpHigh, Halt}
 use Rattle.cpu.specs.Machine.{reg, flags, machine}

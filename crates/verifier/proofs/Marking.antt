@@ -8,9 +8,9 @@ use borrow.Author.Tests.{ne-eqb}
 use lib.Dec.{eqb}
 use lib.ListN.{getD}
 use Rattle.board.specs.Address.{instructionIndexOf}
-use Rattle.isa.specs.Decode.{decodeOf}
 use Rattle.board.specs.declared.address.ByteAddress.{ByteAddress}
 use Rattle.board.specs.declared.address.InstructionIndex.{InstructionIndex}
+use Rattle.isa.specs.Decode.{decodeOf}
 use Rattle.isa.specs.declared.decoder.Decoded.{Decoded}
 use Rattle.image.specs.Format.{mostCode}
 use Rattle.verifier.specs.Targets.{addressOf, decodedAt, jumpAt, landsOn, goesTo, targetedBelow, markedAt}

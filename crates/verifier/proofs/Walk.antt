@@ -6,15 +6,15 @@ use Prim.Native.Nat.{ℕ, zero, suc, _≤_, _<_}
 use native.Mathlib.Decide.{le-ind}
 use lib.Dec.{eqb, ltb}
 use lib.ListN.{length, getD, set, length-set}
-use Rattle.isa.specs.Decode.{only, haltOf, branchOf, decodeOf}
 use Rattle.board.specs.Field.{field}
 use Rattle.board.specs.Refusal.{refusalAt}
 use Rattle.board.specs.declared.address.ByteAddress.{ByteAddress}
+use Rattle.board.specs.declared.refusal.Refusal.{Refusal}
+use Rattle.isa.specs.Decode.{only, haltOf, branchOf, decodeOf}
 use Rattle.isa.specs.declared.decoder.Decoded.{Decoded}
 use Rattle.isa.specs.declared.decoder.Decoded.the-variants.{Defined, Undefined}
 use Rattle.isa.specs.declared.instruction.Instruction.{Instruction}
 use Rattle.isa.specs.declared.instruction.Instruction.the-variants.{MovImm, CmpImm, And, Eor, Asr, Tst, Neg, Cmp, AddHigh, CmpHigh, MovHigh, Str, Ldr, Strb, Ldrb, AddPc, Branch, Halt}
-use Rattle.board.specs.declared.refusal.Refusal.{Refusal}
 use Rattle.image.specs.Check.{firstNo}
 use Rattle.image.specs.declared.answer.Answer.{Answer}
 use Rattle.image.specs.declared.answer.Answer.the-variants as answer
