@@ -5,7 +5,7 @@
 mod argument;
 mod console;
 mod input;
-mod lines;
+mod report;
 
 use argument::Budget;
 use input::Input;
@@ -17,7 +17,7 @@ const MOST: usize = 32769;
 fn go_through(budget: u32) {
     let mut buffer = [0u8; MOST];
     match input::read_input(&mut buffer) {
-        Input::Read(n) => lines::print_lines(&buffer[..n], budget),
+        Input::Read(n) => report::print_lines(&buffer[..n], budget),
         Input::Failed => os::fail(b"standard input"),
     }
 }

@@ -2,11 +2,8 @@
 // bytes and the window's start and length, or `refused` with the number of the
 // first check that failed and its place. A read that fails is told on standard
 // error, and nothing is judged.
-use board::Refusal;
-use image::Layout;
 use libc::STDIN_FILENO;
 use libc::STDOUT_FILENO;
-use verifier::Verdict;
 ghost use lib.ListN.{length};
 ghost use Rattle.judge.specs.Input.{within};
 
@@ -39,33 +36,11 @@ fn read_input(buffer: &mut [u8]) -> Input
     Input::Read(done)
 }
 
-// A space and a number.
-fn print_number(n: u16) {
-    io::write_all(STDOUT_FILENO, b" ");
-    io::print_decimal(STDOUT_FILENO, n as u64);
-}
-
-fn print_fit(layout: Layout) {
-    io::write_all(STDOUT_FILENO, b"fit");
-    print_number(layout.code_bytes);
-    print_number(layout.window_start);
-    print_number(layout.window_length);
-    io::write_all(STDOUT_FILENO, b"\n");
-}
-
-fn print_refused(r: Refusal) {
-    let place = r.place;
-    io::write_all(STDOUT_FILENO, b"refused");
-    print_number(r.number as u16);
-    print_number(board::place_number(place));
-    io::write_all(STDOUT_FILENO, b"\n");
-}
-
 fn judge(file: &[u8]) {
-    match verifier::verify(file) {
-        Verdict::Fit(layout) => print_fit(layout),
-        Verdict::Refused(r) => print_refused(r),
-    }
+    let line = lines::verdict_line(verifier::verify(file));
+    let bytes = line.bytes;
+    let n = line.length;
+    io::write_all(STDOUT_FILENO, &bytes[..n]);
 }
 
 fn main() {

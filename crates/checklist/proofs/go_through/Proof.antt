@@ -7,7 +7,7 @@ use Rattle.checklist.proofs.go_through.Tie as tie
 use Rattle.checklist.proofs.go_through.Reads as reads
 use Rattle.checklist.proofs.go_through.Lts as lts
 use Rattle.checklist.proofs.input.read_input.Reads as read-input-reads
-use Rattle.checklist.proofs.lines.print_lines.Reads as print-lines-reads
+use Rattle.checklist.proofs.report.print_lines.Reads as print-lines-reads
 use Rattle.os.proofs.fail.Reads as fail-reads
 
 -- src/main.rt:19:29

@@ -1,8 +1,7 @@
 // The checklist's lines.
 use super::console::print;
-use super::console::print_fit;
 use super::console::print_number;
-use super::console::print_refused;
+use super::console::print_verdict;
 use cpu::Machine;
 use cpu::RunOutcome;
 use image::Checked;
@@ -59,7 +58,7 @@ fn print_run(file: &[u8], budget: u32) {
     match loader::load(file, &mut memory) {
         Loaded::Refused(r) => {
             print(b"Run: ");
-            print_refused(r);
+            print_verdict(Verdict::Refused(r));
         }
         Loaded::Done(_) => {
             let out = cpu::run(cleared(), &mut memory, budget);
@@ -71,19 +70,17 @@ fn print_run(file: &[u8], budget: u32) {
 
 fn print_window(file: &[u8], budget: u32) {
     print(b"Window: ");
-    match verifier::verify(file) {
-        Verdict::Refused(r) => print_refused(r),
-        Verdict::Fit(layout) => {
-            print_fit(layout);
-            print_run(file, budget);
-        }
+    let v = verifier::verify(file);
+    print_verdict(v);
+    if let Verdict::Fit(_) = v {
+        print_run(file, budget);
     }
 }
 
 fn print_blocks(file: &[u8], budget: u32) {
     print(b"Blocks: ");
     match image::check(file) {
-        Checked::Refused(r) => print_refused(r),
+        Checked::Refused(r) => print_verdict(Verdict::Refused(r)),
         Checked::Valid(_) => {
             print_number(count_blocks(file));
             print(b"\n");

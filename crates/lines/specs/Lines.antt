@@ -1,0 +1,65 @@
+-- The line of a verdict, as ASCII codes: `fit C W L` or `refused N P`.
+use mathlib.Core.Bool.{cond}
+use mathlib.Core.List.{List, [], _∷_, _++_}
+use mathlib.Core.Path.{_≡_}
+use Prim.Native.Nat.{ℕ, _+_, _-_, _/_, _%_, _≤_}
+use lib.Dec.{ltb}
+use lib.ListN.{length, take, replicate}
+use Rattle.board.specs.Refusal.{placeNumber}
+use Rattle.board.specs.declared.refusal.Refusal.{Refusal}
+use Rattle.image.specs.declared.checker.Layout.{Layout}
+use Rattle.verifier.specs.declared.verifier.Verdict.{Verdict}
+use Rattle.verifier.specs.declared.verifier.Verdict.the-variants as verdict
+use Rattle.lines.specs.declared.writer.Line.{Line}
+
+abbrev pub Text : Type 0
+Text = List ℕ
+
+-- the digit of a power of ten (`0` is 48), and nothing for a smaller number
+abbrev pub digit : ℕ → ℕ → Text
+digit n unit = cond (ltb n unit) [] ((48 + n / unit % 10) ∷ [])
+
+-- a space and a number below 100,000 in decimal: no zeros in front, and the ones always
+unfoldable pub numberText : ℕ → Text
+numberText n = 32 ∷ (digit n 10000 ++ digit n 1000 ++ digit n 100 ++ digit n 10 ++ ((48 + n % 10) ∷ []))
+
+-- `fit`, the code's length in bytes, the window's start and its length
+abbrev pub fitText : Layout → Text
+fitText layout =
+    (102 ∷ 105 ∷ 116 ∷ [])
+    ++ numberText (layout .«code_bytes»)
+    ++ numberText (layout .«window_start»)
+    ++ numberText (layout .«window_length»)
+    ++ (10 ∷ [])
+
+-- `refused`, the number of the check that failed, and its place
+abbrev pub refusedText : Refusal → Text
+refusedText r =
+    (114 ∷ 101 ∷ 102 ∷ 117 ∷ 115 ∷ 101 ∷ 100 ∷ [])
+    ++ numberText (r .number)
+    ++ numberText (placeNumber (r .place))
+    ++ (10 ∷ [])
+
+abbrev pub verdictText : Verdict → Text
+verdictText (verdict.Fit layout) = fitText layout
+verdictText (verdict.Refused r) = refusedText r
+
+-- the bytes of a line, whatever its text
+abbrev pub lineBytes : ℕ
+lineBytes = 32
+
+-- the longest line: `fit` and three numbers of five digits
+abbrev pub longestLine : ℕ
+longestLine = 22
+
+-- the line of a text that has room in it: zeros follow the text
+unfoldable pub lineOf : Text → Line
+lineOf t = record { bytes = t ++ replicate (lineBytes - length t) 0; length = length t }
+
+-- a line's text lies within its bytes. The second part follows from the first: Rattle's own proof of `&bytes[..length]` asks both
+abbrev pub Within : Line → Type 0
+Within line = (line .length ≤ length (line .bytes)) × (line .length ≡ length (take (line .length) (line .bytes)))
+
+-- `r` is `line` with a text added
+abbrev pub Adds : Line → Text → Line → Type 0
+Adds line t r = (s : Text) → line ≡ lineOf s → r ≡ lineOf (s ++ t)
