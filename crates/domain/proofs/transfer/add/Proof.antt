@@ -8,24 +8,6 @@ use Rattle.domain.specs.Value.{addOf, largest}
 use Rattle.domain.proofs.transfer.add.Statement.{statement}
 use Rattle.domain.proofs.transfer.add.Tie as tie
 
-min-u8-requires : tie.Need-min-u8-requires
-min-u8-requires c κs = search needs
-
-sub-if1 : tie.Need-sub-if1
-sub-if1 c = search needs
-
-interval-requires : tie.Need-interval-requires
-interval-requires c κs = search needs
-
-saturating-add-requires : tie.Need-saturating-add-requires
-saturating-add-requires c κs = search needs
-
-add-interval : tie.Need-add-interval
-add-interval c = search needs
-
-interval-requires-2 : tie.Need-interval-requires-2
-interval-requires-2 c κs = search needs
-
 returns : tie.Need-returns
 unfolding addOf
 returns c =
@@ -45,11 +27,11 @@ pub add-spec : {M : Type 1} → statement M
 add-spec =
     tie.close
     (tie.spec
-    min-u8-requires
-    sub-if1
-    interval-requires
-    saturating-add-requires
-    add-interval
-    interval-requires-2
+    (λ c κs. search needs)
+    (λ c. search needs)
+    (λ c κs. search needs)
+    (λ c κs. search needs)
+    (λ c. search needs)
+    (λ c κs. search needs)
     returns
     returns-2)

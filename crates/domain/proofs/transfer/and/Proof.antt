@@ -19,4 +19,5 @@ unfolding andOf
 returns c = c .interval .ensures ∙ simp (c .before .max-u8 .ensures, c .before .before .min-u16 .ensures)
 
 pub and-spec : {M : Type 1} → statement M
-and-spec = tie.close (tie.spec min-u16-requires max-u8-requires interval-requires returns)
+and-spec = tie.close (tie.spec
+    min-u16-requires max-u8-requires interval-requires returns)

@@ -21,4 +21,5 @@ unfolding asrOf
 returns-2 c = c .interval2 .ensures ∙ sym (simp (lt-leb _ _ (c .before .if1 .left)))
 
 pub asr-spec : {M : Type 1} → statement M
-asr-spec = tie.close (tie.spec interval-requires interval-requires-2 returns returns-2)
+asr-spec = tie.close (tie.spec
+    interval-requires interval-requires-2 returns returns-2)

@@ -25,4 +25,5 @@ returns c =
 
 pub eor-spec : {M : Type 1} → statement M
 eor-spec =
-    tie.close (tie.spec max-u16-requires ones-requires min-u8-requires interval-requires returns)
+    tie.close (tie.spec
+    max-u16-requires ones-requires min-u8-requires interval-requires returns)

@@ -26,4 +26,5 @@ returns : tie.Need-returns
 returns c = rw (shl-one (16 - leadingZeros 16 (c .args .x)) (omega arith))
 
 pub ones-spec : {M : Type 1} → statement M
-ones-spec = tie.close (tie.spec sub-bits shl-result sub-result cast-result returns)
+ones-spec = tie.close (tie.spec
+    sub-bits shl-result sub-result cast-result returns)

@@ -15,4 +15,5 @@ unfolding firstNo
 returns-2 c = simp (sym (c .before .is-window .ensures) ∙ not-false _ (c .if1 .left))
 
 pub check-layout-spec : {M : Type 1} → statement M
-check-layout-spec = tie.close (tie.spec (λ c κs. search needs) (λ c κs. search needs) returns returns-2)
+check-layout-spec = tie.close (tie.spec
+    (λ c κs. search needs) (λ c κs. search needs) returns returns-2)

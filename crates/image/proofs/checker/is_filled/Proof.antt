@@ -19,4 +19,5 @@ returns-2 c =
 
 pub is-filled-spec : {M : Type 1} → statement M
 is-filled-spec =
-    tie.close (tie.spec (λ c κs. search needs) (λ c. search needs) (λ c κs. search needs) returns is-unused-zero-requires returns-2)
+    tie.close (tie.spec
+    (λ c κs. search needs) (λ c. search needs) (λ c κs. search needs) returns is-unused-zero-requires returns-2)

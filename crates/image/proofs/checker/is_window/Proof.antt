@@ -26,4 +26,5 @@ unfolding check8
 returns-5 c = simp (eq-eqb _ _ (c .before .before .before .if1 .left), eq-eqb _ _ (c .before .before .if2 .left), le-leb _ _ (c .before .if3 .left), le-leb _ _ (c .if4 .left))
 
 pub is-window-spec : {M : Type 1} → statement M
-is-window-spec = tie.close (tie.spec returns returns-2 returns-3 returns-4 (λ c. search needs) returns-5)
+is-window-spec = tie.close (tie.spec
+    returns returns-2 returns-3 returns-4 (λ c. search needs) returns-5)

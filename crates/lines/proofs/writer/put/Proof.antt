@@ -9,4 +9,5 @@ returns : tie.Need-returns
 returns c = (put-adds (c .before .args .line) (c .before .args .byte) (c .before .pre), refl)
 
 pub put-spec : {M : Type 1} → statement M
-put-spec = tie.close (tie.spec (λ c. search needs) (λ c. search needs) returns)
+put-spec = tie.close (tie.spec
+    (λ c. search needs) (λ c. search needs) returns)

@@ -22,4 +22,5 @@ returns-2 c =
     ∙ ap (verifyChecked (s .file .now)) (sym (c .before .before .layout .given .1) ∙ c .before .before .before .before .check .ensures)
 
 pub verify-spec : {M : Type 1} → statement M
-verify-spec = tie.close (tie.spec (λ c κs. search needs) (λ c. search needs) (λ c. search needs) walk-requires returns returns-2)
+verify-spec = tie.close (tie.spec
+    (λ c κs. search needs) (λ c. search needs) (λ c. search needs) walk-requires returns returns-2)
