@@ -1,16 +1,11 @@
 -- 128 to 255 stand for a distance back, which wraps as a long way forward.
-use mathlib.Core.Path.{_≡_, ap}
 use native.Mathlib.Omega.{arith}
-use Prim.Native.Nat.{ℕ, _<_, _≤_}
+use Prim.Native.Nat.{_<_, _≤_}
 use borrow.Author.Tests.{lt-ltb, le-ltb}
 use borrow.Author.Needs.{needs}
-use Rattle.board.specs.declared.address.ByteAddress.{ByteAddress}
+use Rattle.board.proofs.Places.{at}
 use Rattle.board.proofs.address.branch_target.Statement.{statement}
 use Rattle.board.proofs.address.branch_target.Tie as tie
-
--- equal numbers are equal addresses
-at : {a b : ℕ} → a ≡ b → _≡_ {A = ByteAddress} (record { 0 = a }) (record { 0 = b })
-at e = ap (λ (x : ℕ). record { 0 = x }) e
 
 pub branch-target-spec : {M : Type 1} → statement M
 branch-target-spec =
