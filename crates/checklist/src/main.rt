@@ -12,7 +12,7 @@ use input::Input;
 
 // One byte more than the longest image, so that a longer file is seen to be
 // longer and no more of it is read.
-const MOST: usize = 32769;
+const MOST: usize = image::MOST_BYTES + 1;
 
 fn go_through(budget: u32) {
     let mut buffer = [0u8; MOST];

@@ -22,14 +22,14 @@ fn cleared() -> Machine {
 // How many blocks the file's reader gives before it has none left.
 fn count_blocks(file: &[u8]) -> u64 {
     let mut n: usize = 0;
-    while n < 64 {
+    while n < image::MOST_BLOCKS {
         let block = reader::given_at(file, n);
         if block.len() == 0 {
             return n as u64;
         }
         n += 1;
     }
-    64
+    image::MOST_BLOCKS as u64
 }
 
 fn print_outcome(outcome: RunOutcome, count: u32) {

@@ -18,4 +18,6 @@ pub use format::BLOCK_HALFWORDS;
 pub use format::HEADER_BYTES;
 pub use format::HEADER_HALFWORDS;
 pub use format::MARK;
+pub use format::MOST_BLOCKS;
+pub use format::MOST_BYTES;
 pub use format::MOST_CODE;

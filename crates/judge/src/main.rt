@@ -9,7 +9,7 @@ ghost use Rattle.judge.specs.Input.{within};
 
 // One byte more than the longest image, so that a longer file is seen to be
 // longer and no more of it is read.
-const MOST: usize = 32769;
+const MOST: usize = image::MOST_BYTES + 1;
 
 // What came of reading: so many bytes, or a failure.
 enum Input {

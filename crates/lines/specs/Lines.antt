@@ -1,4 +1,4 @@
--- The line of a verdict, as ASCII codes: `fit C W L` or `refused N P`.
+-- The line of a verdict ("Bench table", the program), as ASCII codes: `fit C W L` or `refused N P`.
 use mathlib.Core.Bool.{cond}
 use mathlib.Core.List.{List, [], _∷_, _++_}
 use mathlib.Core.Path.{_≡_}
