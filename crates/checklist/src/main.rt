@@ -4,22 +4,32 @@
 // the run is the argument, 1,000,000 steps if there is none.
 mod argument;
 mod console;
-mod input;
 mod report;
 
 use argument::Budget;
-use input::Input;
+use libc::STDIN_FILENO;
 
 // One byte more than the longest image, so that a longer file is seen to be
 // longer and no more of it is read.
 const MOST: usize = image::MOST_BYTES + 1;
 
+// Whether the input has ended: after a read that failed, the next one fails
+// too or finds more.
+fn has_ended() -> bool {
+    let mut next = [0u8; 1];
+    libc::read(STDIN_FILENO, &mut next) == 0
+}
+
 fn go_through(budget: u32) {
     let mut buffer = [0u8; MOST];
-    match input::read_input(&mut buffer) {
-        Input::Read(n) => report::print_lines(&buffer[..n], budget),
-        Input::Failed => os::fail(b"standard input"),
+    let n = io::read_full(STDIN_FILENO, &mut buffer);
+    if n < MOST {
+        if !has_ended() {
+            os::fail(b"standard input");
+            return;
+        }
     }
+    report::print_lines(&buffer[..n], budget);
 }
 
 fn main() {

@@ -4,36 +4,16 @@
 // error, and nothing is judged.
 use libc::STDIN_FILENO;
 use libc::STDOUT_FILENO;
-ghost use lib.ListN.{length};
-ghost use Rattle.judge.specs.Input.{within};
 
 // One byte more than the longest image, so that a longer file is seen to be
 // longer and no more of it is read.
 const MOST: usize = image::MOST_BYTES + 1;
 
-// What came of reading: so many bytes, or a failure.
-enum Input {
-    Read(usize),
-    Failed,
-}
-
-// Reads until the buffer is full or the input ends.
-fn read_input(buffer: &mut [u8]) -> Input
-    ensures { λ r. ⌜ within r (length (now (buffer .exit))) ⌝ }
-{
-    let mut done = 0;
-    while done < buffer.len() {
-        let got = libc::read(STDIN_FILENO, &mut buffer[done..]);
-        if got < 0 {
-            return Input::Failed;
-        }
-        let n = io::count(got, &buffer[done..]);
-        if n == 0 {
-            return Input::Read(done);
-        }
-        done += n;
-    }
-    Input::Read(done)
+// Whether the input has ended: after a read that failed, the next one fails
+// too or finds more.
+fn has_ended() -> bool {
+    let mut next = [0u8; 1];
+    libc::read(STDIN_FILENO, &mut next) == 0
 }
 
 fn judge(file: &[u8]) {
@@ -45,8 +25,12 @@ fn judge(file: &[u8]) {
 
 fn main() {
     let mut buffer = [0u8; MOST];
-    match read_input(&mut buffer) {
-        Input::Read(n) => judge(&buffer[..n]),
-        Input::Failed => os::fail(b"standard input"),
+    let n = io::read_full(STDIN_FILENO, &mut buffer);
+    if n < MOST {
+        if !has_ended() {
+            os::fail(b"standard input");
+            return;
+        }
     }
+    judge(&buffer[..n]);
 }

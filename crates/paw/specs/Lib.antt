@@ -1,4 +1,3 @@
 pub mod Date
 pub mod Instructions
-pub mod Machines
 pub mod Answers

@@ -2,9 +2,9 @@
 use mathlib.Core.Path.{ap, _∙_}
 use Prim.Native.Nat.{ℕ}
 use borrow.Author.Needs.{needs}
-use Rattle.paw.specs.Machines.{numbered, numberedStep}
-use Rattle.paw.proofs.machines.step_numbered.Statement.{statement}
-use Rattle.paw.proofs.machines.step_numbered.Tie as tie
+use Rattle.endings.specs.Endings.{numbered, numberedStep}
+use Rattle.endings.proofs.step.step_numbered.Statement.{statement}
+use Rattle.endings.proofs.step.step_numbered.Tie as tie
 
 pub step-numbered-spec : {M : Type 1} → statement M
 step-numbered-spec =

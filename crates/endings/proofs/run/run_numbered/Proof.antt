@@ -2,9 +2,9 @@
 use mathlib.Core.Path.{ap, _∙_}
 use Prim.Native.Nat.{ℕ, _+_, _*_}
 use borrow.Author.Needs.{needs}
-use Rattle.paw.specs.Machines.{numbered, numberedRun}
-use Rattle.paw.proofs.machines.run_numbered.Statement.{statement}
-use Rattle.paw.proofs.machines.run_numbered.Tie as tie
+use Rattle.endings.specs.Endings.{numbered, numberedRun}
+use Rattle.endings.proofs.run.run_numbered.Statement.{statement}
+use Rattle.endings.proofs.run.run_numbered.Tie as tie
 
 pub run-numbered-spec : {M : Type 1} → statement M
 run-numbered-spec =

@@ -1,0 +1,9 @@
+// Steps and runs of a machine by value, their endings as numbers, as the C face
+// gives them out.
+mod run;
+mod step;
+
+pub use run::AfterRun;
+pub use run::run_numbered;
+pub use step::AfterStep;
+pub use step::step_numbered;

@@ -1,8 +1,0 @@
--- What can be said of a read: the bytes lie in the buffer.
-use Prim.Native.Nat.{ℕ, _≤_}
-use Rattle.judge.specs.declared.Input.{Input}
-use Rattle.judge.specs.declared.Input.the-variants.{Read, Failed}
-
-abbrev pub within : Input → ℕ → Type 0
-within (Read n) size = n ≤ size
-within Failed size = Unit {0}
