@@ -31,15 +31,13 @@ pub fn instruction_index(a: ByteAddress) -> InstructionIndex
 }
 
 // Where a taken branch at an address goes: `offset` is the signed byte of its
-// halfword, counted in instructions from the branch itself. Wraps.
+// halfword, counted in instructions from the branch itself. Wraps. With no test
+// in it, as a run is faster.
 pub fn branch_target(a: ByteAddress, offset: u8) -> ByteAddress
     ensures { λ r. ⌜ r ≡ branchTargetOf a offset ⌝ }
 {
     let address = a.0;
     let forward = (offset as u16) * 2;
-    if offset < 128 {
-        ByteAddress(std::num::wrapping_add_u16(address, forward))
-    } else {
-        ByteAddress(std::num::wrapping_add_u16(address, forward + 65024))
-    }
+    let back = ((offset / 128) as u16) * 65024;
+    ByteAddress(std::num::wrapping_add_u16(address, forward + back))
 }

@@ -24,6 +24,7 @@ use Rattle.domain.specs.declared.value.Value.{Value}
 use Rattle.domain.specs.Value.{exactlyOf}
 use Rattle.verifier.specs.State.{State, unknownState, standingAt, transferOf, afterOf}
 use Rattle.verifier.specs.Targets.{addressOf, decodedAt, targeted}
+use Rattle.verifier.specs.Numbers.{numberOf}
 use Rattle.verifier.specs.Questions.{halfwordChecks, answerAt}
 use Rattle.verifier.specs.Verify.{entering, valuesAt, layoutWith, checksAt, codeChecks, verdictBelow, verdictAs, verifyCode}
 use Rattle.verifier.specs.declared.verifier.Verdict.the-variants.{Fit, Refused}
@@ -58,6 +59,11 @@ length-transfer address Halt s = refl
 length-after : (address : ℕ) (d : Decoded) (s : State) → length (afterOf address d s) ≡ length s
 length-after address (Defined i) s = length-transfer address i s
 length-after address Undefined s = refl
+
+-- a halfword whose meaning is known
+pub as-known : (d known : Decoded) (s t : State) (layout : Layout) (a : ByteAddress) (r : ℕ) → d ≡ known
+    → (r ≡ numberOf s layout a known) × (t ≡ afterOf (a .0) known s) → (r ≡ numberOf s layout a d) × (t ≡ afterOf (a .0) d s)
+as-known d known s t layout a r is both = rw is both
 
 -- HALT and branches leave the state as it is
 pub after-halt : (address h : ℕ) (s : State) → afterOf address (haltOf h) s ≡ s

@@ -1,5 +1,6 @@
 // Checks 10 to 14, each as the number of the check that fails, or 0.
 use super::state::PC;
+use super::state::value_at;
 use board::ByteAddress;
 use domain::Value;
 use image::Layout;
@@ -7,9 +8,14 @@ ghost use mathlib.Core.Path.{_≡_};
 ghost use mathlib.Core.Bool.{cond, not};
 ghost use Prim.Native.Nat.{_<_};
 ghost use lib.Dec.{eqb, ltb};
+ghost use lib.ListN.{length};
 ghost use Rattle.board.specs.Address.{branchTargetOf};
-ghost use Rattle.verifier.specs.Access.{halfwordAccess, byteAccess};
-ghost use Rattle.verifier.specs.State.{pcRegister};
+ghost use Rattle.board.specs.Field.{field};
+ghost use Rattle.isa.specs.declared.decoder.Decoded.the-variants.{Defined};
+ghost use Rattle.isa.specs.declared.instruction.Instruction.the-variants.{Str, Strb};
+ghost use Rattle.verifier.specs.State.{registerCount, pcRegister};
+ghost use Rattle.verifier.specs.Words.{stateOf};
+ghost use Rattle.verifier.specs.Numbers.{numberOf};
 ghost use Rattle.verifier.specs.Questions.{check10, check11, check14};
 
 // Check 14 of a halfword.
@@ -49,18 +55,22 @@ fn check_access(base: Value, layout: Layout, offset: u16, size: u8) -> u8
     0
 }
 
-// The same of LDR and STR, whose offset counts in fours.
-pub(crate) fn check_halfword(base: Value, layout: Layout, offset: u8) -> u8
-    ensures { λ r. ⌜ r ≡ cond (check10 base (layout .«window_start») (layout .«window_length») (halfwordAccess offset 0)) (cond (check11 base (halfwordAccess offset 0)) 0 11) 10 ⌝ }
+// The same of a LDR or STR, whose offset counts in fours.
+pub(crate) fn check_halfword(state: &[u64; 16], layout: Layout, h: u16) -> u8
+    requires { ⌜ length (now state) ≡ registerCount ⌝ }
+    ensures { λ r. ⌜ ((a : ByteAddress) → r ≡ numberOf (stateOf (now (state .entry))) layout a (Defined (Str (field h 6 5) (field h 3 3) (field h 0 3)))) ⌝ }
 {
-    check_access(base, layout, 4 * (offset as u16), 2)
+    let base = value_at(state, board::bits(h, 3, 3));
+    check_access(base, layout, 4 * (board::bits(h, 6, 5) as u16), 2)
 }
 
-// The same of LDRB and STRB.
-pub(crate) fn check_byte(base: Value, layout: Layout, offset: u8) -> u8
-    ensures { λ r. ⌜ r ≡ cond (check10 base (layout .«window_start») (layout .«window_length») (byteAccess offset 0)) 0 10 ⌝ }
+// The same of a LDRB or STRB.
+pub(crate) fn check_byte(state: &[u64; 16], layout: Layout, h: u16) -> u8
+    requires { ⌜ length (now state) ≡ registerCount ⌝ }
+    ensures { λ r. ⌜ ((a : ByteAddress) → r ≡ numberOf (stateOf (now (state .entry))) layout a (Defined (Strb (field h 6 5) (field h 3 3) (field h 0 3)))) ⌝ }
 {
-    check_access(base, layout, offset as u16, 1)
+    let base = value_at(state, board::bits(h, 3, 3));
+    check_access(base, layout, board::bits(h, 6, 5) as u16, 1)
 }
 
 // Check 12 of an instruction that writes Rd.

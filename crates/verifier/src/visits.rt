@@ -13,8 +13,9 @@ use domain::Value;
 use image::Layout;
 ghost use mathlib.Core.Path.{_≡_};
 ghost use Prim.Native.Nat.{ℕ};
-ghost use lib.ListN.{length};
-ghost use Rattle.isa.specs.Decode.{haltOf, immOf, aluOf, highOf, registersOf, memoryOf, addPcOf, branchOf, decodeOf};
+ghost use lib.ListN.{length, set};
+ghost use Rattle.board.specs.Field.{field};
+ghost use Rattle.isa.specs.Decode.{haltOf, aluOf, highOf, registersOf, branchOf, decodeOf};
 ghost use Rattle.domain.specs.Value.{exactlyOf};
 ghost use Rattle.image.specs.Check.{firstNo};
 ghost use Rattle.verifier.specs.State.{State, registerCount, pcSum, afterOf};
@@ -31,18 +32,12 @@ fn visit_halt(h: u16) -> u8
     if h == 0 { 0 } else { UNDEFINED }
 }
 
-fn visit_imm(state: &mut [u64; 16], h: u16) -> u8
-    ensures { λ r. ⌜ ((s : State) (layout : Layout) (a : ByteAddress) → r ≡ numberOf s layout a (immOf h)) × ((n : ℕ) → stateOf (now (state .exit)) ≡ afterOf n (immOf h) (stateOf (now (state .entry)))) ⌝ }
+// MOV of an immediate.
+fn move_imm(state: &mut [u64; 16], h: u16)
+    ensures { λ _. ⌜ stateOf (now (state .exit)) ≡ set (stateOf (now (state .entry))) (field h 8 3) (exactlyOf (field h 0 8)) ⌝ }
 {
-    match board::bits(h, 11, 2) {
-        0 => {
-            let imm = board::bits(h, 0, 8) as u16;
-            set_value(state, board::bits(h, 8, 3), domain::exactly(imm));
-            0
-        }
-        1 => 0,
-        _ => UNDEFINED,
-    }
+    let imm = board::bits(h, 0, 8) as u16;
+    set_value(state, board::bits(h, 8, 3), domain::exactly(imm));
 }
 
 fn visit_alu(state: &mut [u64; 16], h: u16) -> u8
@@ -102,62 +97,41 @@ fn visit_high(state: &mut [u64; 16], h: u16) -> u8
     }
 }
 
+// The two formats above, by the bit in which they differ.
 fn visit_registers(state: &mut [u64; 16], h: u16) -> u8
-    requires { ⌜ length (now state) ≡ registerCount ⌝ }
+    requires { ⌜ (length (now state) ≡ registerCount) × (field h 11 2 ≡ 0) ⌝ }
     ensures { λ r. ⌜ ((s : State) (layout : Layout) (a : ByteAddress) → r ≡ numberOf s layout a (registersOf h)) × ((n : ℕ) → stateOf (now (state .exit)) ≡ afterOf n (registersOf h) (stateOf (now (state .entry)))) ⌝ }
 {
-    match board::bits(h, 10, 3) {
-        0 => visit_alu(state, h),
-        1 => visit_high(state, h),
-        _ => UNDEFINED,
+    if board::bits(h, 10, 1) == 0 {
+        visit_alu(state, h)
+    } else {
+        visit_high(state, h)
     }
 }
 
-fn visit_memory(state: &mut [u64; 16], layout: Layout, h: u16) -> u8
-    requires { ⌜ length (now state) ≡ registerCount ⌝ }
-    ensures { λ r. ⌜ ((a : ByteAddress) → r ≡ numberOf (stateOf (now (state .entry))) layout a (memoryOf h)) × ((n : ℕ) → stateOf (now (state .exit)) ≡ afterOf n (memoryOf h) (stateOf (now (state .entry)))) ⌝ }
+// What a load leaves in its register.
+fn load(state: &mut [u64; 16], h: u16, v: Value)
+    ensures { λ _. ⌜ stateOf (now (state .exit)) ≡ set (stateOf (now (state .entry))) (field h 0 3) v ⌝ }
 {
-    let offset = board::bits(h, 6, 5);
-    let base = value_at(state, board::bits(h, 3, 3));
-    let rd = board::bits(h, 0, 3);
-    match board::bits(h, 11, 2) {
-        0 => check_halfword(base, layout, offset),
-        1 => {
-            set_value(state, rd, domain::unknown());
-            check_halfword(base, layout, offset)
-        }
-        2 => check_byte(base, layout, offset),
-        _ => {
-            set_value(state, rd, domain::byte());
-            check_byte(base, layout, offset)
-        }
-    }
+    set_value(state, board::bits(h, 0, 3), v);
 }
 
 // ADD Rd, PC at an address.
-fn add_pc(a: ByteAddress, imm: u8) -> Value
-    ensures { λ r. ⌜ r ≡ exactlyOf (pcSum (a .0) imm) ⌝ }
+fn add_pc(state: &mut [u64; 16], a: ByteAddress, h: u16)
+    ensures { λ _. ⌜ stateOf (now (state .exit)) ≡ set (stateOf (now (state .entry))) (field h 8 3) (exactlyOf (pcSum (a .0) (field h 0 8))) ⌝ }
 {
     let aligned = a.0 / 4 * 4;
-    domain::exactly(std::num::wrapping_add_u16(aligned, 4 * (imm as u16)))
+    let distance = 4 * (board::bits(h, 0, 8) as u16);
+    let sum = std::num::wrapping_add_u16(aligned, distance);
+    set_value(state, board::bits(h, 8, 3), domain::exactly(sum));
 }
 
-fn visit_add_pc(state: &mut [u64; 16], a: ByteAddress, h: u16) -> u8
-    ensures { λ r. ⌜ ((s : State) (layout : Layout) → r ≡ numberOf s layout a (addPcOf h)) × (stateOf (now (state .exit)) ≡ afterOf (a .0) (addPcOf h) (stateOf (now (state .entry)))) ⌝ }
-{
-    if board::bits(h, 11, 2) != 0 {
-        return UNDEFINED;
-    }
-    set_value(state, board::bits(h, 8, 3), add_pc(a, board::bits(h, 0, 8)));
-    0
-}
-
+// A branch by one of the upper conditions, or a halfword with the number of
+// none.
 fn visit_branch(layout: Layout, a: ByteAddress, h: u16) -> u8
+    requires { ⌜ field h 12 1 ≡ 1 ⌝ }
     ensures { λ r. ⌜ ((s : State) → r ≡ numberOf s layout a (branchOf h)) ⌝ }
 {
-    if board::bits(h, 12, 1) != 1 {
-        return UNDEFINED;
-    }
     if board::bits(h, 8, 4) < 14 {
         check_branch(a, board::bits(h, 0, 8), layout)
     } else {
@@ -165,19 +139,38 @@ fn visit_branch(layout: Layout, a: ByteAddress, h: u16) -> u8
     }
 }
 
-// Checks 9 to 13 of the halfword at an address, and the state behind it.
+// Checks 9 to 13 of the halfword at an address, and the state behind it. Its top
+// five bits tell its format; of a branch they tell the half of the conditions.
 fn visit(state: &mut [u64; 16], layout: Layout, a: ByteAddress, h: u16) -> u8
     requires { ⌜ length (now state) ≡ registerCount ⌝ }
     ensures { λ r. ⌜ (r ≡ numberOf (stateOf (now (state .entry))) layout a (decodeOf h)) × (stateOf (now (state .exit)) ≡ afterOf (a .0) (decodeOf h) (stateOf (now (state .entry)))) ⌝ }
 {
-    match board::bits(h, 13, 3) {
+    match board::bits(h, 11, 5) {
         0 => visit_halt(h),
-        1 => visit_imm(state, h),
-        2 => visit_registers(state, h),
-        3 => visit_memory(state, layout, h),
-        4 => UNDEFINED,
-        5 => visit_add_pc(state, a, h),
-        6 => visit_branch(layout, a, h),
+        4 => {
+            move_imm(state, h);
+            0
+        }
+        5 => 0,
+        8 => visit_registers(state, h),
+        12 => check_halfword(state, layout, h),
+        13 => {
+            let no = check_halfword(state, layout, h);
+            load(state, h, domain::unknown());
+            no
+        }
+        14 => check_byte(state, layout, h),
+        15 => {
+            let no = check_byte(state, layout, h);
+            load(state, h, domain::byte());
+            no
+        }
+        20 => {
+            add_pc(state, a, h);
+            0
+        }
+        26 => check_branch(a, board::bits(h, 0, 8), layout),
+        27 => visit_branch(layout, a, h),
         _ => UNDEFINED,
     }
 }

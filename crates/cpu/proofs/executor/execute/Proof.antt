@@ -1,13 +1,14 @@
 -- The top five bits tell the format, and with it the other fields that decoding looks at.
 use native.Mathlib.Omega.{arith}
-use mathlib.Core.Path.{_≡_, refl, _∙_}
+use mathlib.Core.Path.{_≡_, refl}
 use lib.Dec.{lit<}
 use Rattle.board.specs.Field.{field}
 use Rattle.isa.specs.Decode.{haltOf, registersOf, branchOf, decodeOf}
 use Rattle.isa.specs.declared.decoder.Decoded.the-variants.{Defined}
 use Rattle.isa.specs.declared.instruction.Instruction.the-variants.{MovImm, CmpImm, Str, Ldr, Strb, Ldrb, AddPc, Branch}
 use Rattle.cpu.specs.Step.{executeOf}
-use Rattle.cpu.proofs.Formats.{leads-as, arm, none, branch-holds, is-halt, is-imm, is-registers, is-memory, is-add-pc, is-lower-branch, is-upper-branch, is-none}
+use Rattle.isa.proofs.Formats.{is-halt, is-imm, is-registers, is-memory, is-add-pc, is-lower-branch, is-upper-branch, is-none}
+use Rattle.cpu.proofs.Formats.{leads-as, arm, none, branch-holds}
 use borrow.Author.Needs.{needs}
 use Rattle.cpu.proofs.executor.execute.Statement.{statement}
 use Rattle.cpu.proofs.executor.execute.Tie as tie
@@ -70,4 +71,4 @@ execute-spec =
     (λ c. let e : field (c .before .before .before .before .before .before .before .before .args .h) 11 5 ≡ 20 = omega (arith, c .before .before .before .before .before .before .bits .ensures) in arm (decodeOf (c .before .before .before .before .before .before .before .before .args .h)) (AddPc (c .before .before .before .bits18 .result) (c .before .before .bits19 .result)) _ _ _ (c .before .add-pc .result) _ _ (rw (c .before .before .before .bits18 .ensures, c .before .before .bits19 .ensures) (is-add-pc (c .before .before .before .before .before .before .before .before .args .h) (search needs) e)) refl (c .completed4 .ensures) (c .before .add-pc .ensures))
     (λ c. let e : field (c .before .before .before .before .before .before .before .args .h) 11 5 ≡ 26 = omega (arith, c .before .before .before .before .before .bits .ensures) in arm (decodeOf (c .before .before .before .before .before .before .before .args .h)) (Branch (c .before .before .before .bits20 .result) (c .before .before .bits21 .result)) (c .before .before .before .before .before .before .before .args .regs .now) (c .before .before .before .before .before .before .before .args .memory .now) _ (c .before .branch .result) _ _ (rw (c .before .before .before .bits20 .ensures, c .before .before .bits21 .ensures) (is-lower-branch (c .before .before .before .before .before .before .before .args .h) (search needs) e)) refl (c .completed5 .ensures) (branch-holds (c .before .before .before .bits20 .result) (c .before .before .bits21 .result) (c .before .before .before .before .before .before .before .args .regs .now) (c .before .before .before .before .before .before .before .args .k) _ (c .before .before .before .before .before .before .before .pre .0) (c .before .branch .ensures)))
     (λ c. let e : field (c .before .before .before .before .args .h) 11 5 ≡ 27 = omega (arith, c .before .before .bits .ensures) in leads-as (decodeOf (c .before .before .before .before .args .h)) (branchOf (c .before .before .before .before .args .h)) _ _ _ _ _ (is-upper-branch (c .before .before .before .before .args .h) (search needs) e) (c .execute-branch .ensures (c .before .before .before .before .args .regs .now) (c .before .before .before .before .pre .0) (c .before .before .before .before .args .memory .now)))
-    (λ c. none (decodeOf (c .before .before .before .before .args .h)) _ _ _ _ (is-none (c .before .before .before .before .args .h) (search needs) (λ z. c .before .match .rest .0 .0 .0 .0 .0 .0 .0 .0 .0 .0 .1 (c .before .before .bits .ensures ∙ z)) (λ z. c .before .match .rest .0 .0 .0 .0 .0 .0 .0 .0 .0 .1 (c .before .before .bits .ensures ∙ z)) (λ z. c .before .match .rest .0 .0 .0 .0 .0 .0 .0 .0 .1 (c .before .before .bits .ensures ∙ z)) (λ z. c .before .match .rest .0 .0 .0 .0 .0 .0 .0 .1 (c .before .before .bits .ensures ∙ z)) (λ z. c .before .match .rest .0 .0 .0 .0 .0 .0 .1 (c .before .before .bits .ensures ∙ z)) (λ z. c .before .match .rest .0 .0 .0 .0 .0 .1 (c .before .before .bits .ensures ∙ z)) (λ z. c .before .match .rest .0 .0 .0 .0 .1 (c .before .before .bits .ensures ∙ z)) (λ z. c .before .match .rest .0 .0 .0 .1 (c .before .before .bits .ensures ∙ z)) (λ z. c .before .match .rest .0 .0 .1 (c .before .before .bits .ensures ∙ z)) (λ z. c .before .match .rest .0 .1 (c .before .before .bits .ensures ∙ z)) (λ z. c .before .match .rest .1 (c .before .before .bits .ensures ∙ z))) (c .stopped .ensures) (c .before .before .before .before .pre .0)))
+    (λ c. none (decodeOf (c .before .before .before .before .args .h)) _ _ _ _ (is-none (c .before .before .before .before .args .h) (search needs) (c .before .before .bits .result) (c .before .before .bits .ensures) (c .before .match .rest)) (c .stopped .ensures) (c .before .before .before .before .pre .0)))

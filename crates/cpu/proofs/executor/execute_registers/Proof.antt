@@ -3,7 +3,8 @@ use native.Mathlib.Omega.{arith}
 use mathlib.Core.Path.{_≡_, _∙_}
 use Rattle.board.specs.Field.{field}
 use Rattle.isa.specs.Decode.{aluOf, highOf, registersOf}
-use Rattle.cpu.proofs.Formats.{leads-as, one-bit}
+use Rattle.isa.proofs.Formats.{one-bit}
+use Rattle.cpu.proofs.Formats.{leads-as}
 use borrow.Author.Needs.{needs}
 use Rattle.cpu.proofs.executor.execute_registers.Statement.{statement}
 use Rattle.cpu.proofs.executor.execute_registers.Tie as tie

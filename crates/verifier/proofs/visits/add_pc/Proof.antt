@@ -1,19 +1,22 @@
 -- `add_pc` is right because the wrapping sum is the definition's.
-use mathlib.Core.Path.{ap, _∙_}
-use Rattle.domain.specs.Value.{exactlyOf}
+use mathlib.Core.Path.{_∙_}
 use borrow.Author.Needs.{needs}
 use Rattle.verifier.proofs.visits.add_pc.Statement.{statement}
 use Rattle.verifier.proofs.visits.add_pc.Tie as tie
 
 returns : tie.Need-returns
-returns c = c .exactly .ensures ∙ ap exactlyOf (c .before .wrapping-add-u16 .ensures)
+returns c = c .set-value .ensures ∙ simp (c .before .before .bits2 .ensures, c .before .exactly .ensures, c .before .before .before .before .wrapping-add-u16 .ensures, c .before .before .before .before .before .bits .ensures)
 
 pub add-pc-spec : {M : Type 1} → statement M
 add-pc-spec =
     tie.close
     (tie.spec
     (λ c. search needs)
+    (λ c κs. search needs)
     (λ c. search needs)
+    (λ c. search needs)
+    (λ c κs. search needs)
+    (λ c κs. search needs)
     (λ c κs. search needs)
     (λ c κs. search needs)
     returns)

@@ -1,11 +1,13 @@
--- `visit` is right because the top three bits pick the format.
-use mathlib.Core.Path.{_≡_, sym}
-use Prim.Native.Nat.{_≤_}
+-- The top five bits tell the format, and with it the other fields that decoding looks at.
+use mathlib.Core.Path.{_≡_, refl, sym, _∙_}
 use native.Mathlib.Omega.{arith}
+use lib.Dec.{lit<}
 use Rattle.board.specs.Field.{field}
-use Prim.Native.Nat.{zero-le}
-use Rattle.isa.proofs.Table.{entry-past, skip}
-use Rattle.verifier.proofs.Walk.{after-halt, after-branch}
+use Rattle.isa.specs.Decode.{haltOf, registersOf, branchOf, decodeOf}
+use Rattle.isa.specs.declared.decoder.Decoded.the-variants.{Defined, Undefined}
+use Rattle.isa.specs.declared.instruction.Instruction.the-variants.{MovImm, CmpImm, Str, Ldr, Strb, Ldrb, AddPc, Branch}
+use Rattle.isa.proofs.Formats.{is-halt, is-imm, is-registers, is-memory, is-add-pc, is-lower-branch, is-upper-branch, is-none}
+use Rattle.verifier.proofs.Walk.{as-known, after-halt, after-branch}
 use borrow.Author.Needs.{needs}
 use Rattle.verifier.proofs.visits.visit.Statement.{statement}
 use Rattle.verifier.proofs.visits.visit.Tie as tie
@@ -13,66 +15,109 @@ use Rattle.verifier.proofs.visits.visit.Tie as tie
 returns : tie.Need-returns
 returns c =
     let m = c .before .before .before in
-    let e : field (m .args .h) 13 3 ≡ 0 = omega arith in (
-      simp e (c .visit-halt .ensures _ (m .args .layout) (m .args .a)),
-      simp e (sym (after-halt (m .args .a .0) (m .args .h) _)),
+    let e : field (m .args .h) 11 5 ≡ 0 = omega (arith, c .before .before .bits .ensures) in
+    as-known (decodeOf (m .args .h)) (haltOf (m .args .h)) _ _ (m .args .layout) (m .args .a) _ (is-halt (m .args .h) (search needs) e) (
+      c .visit-halt .ensures _ (m .args .layout) (m .args .a),
+      sym (after-halt (m .args .a .0) (m .args .h) _),
     )
 
 returns-2 : tie.Need-returns-2
 returns-2 c =
     let m = c .before .before .before .before in
-    let e : field (m .args .h) 13 3 ≡ 1 = omega arith in (
-      simp e (c .visit-imm .ensures .0 _ (m .args .layout) (m .args .a)),
-      simp e (c .visit-imm .ensures .1 (m .args .a .0)),
+    let e : field (m .args .h) 11 5 ≡ 4 = omega (arith, c .before .before .before .bits .ensures) in
+    as-known (decodeOf (m .args .h)) (Defined (MovImm (field (m .args .h) 8 3) (field (m .args .h) 0 8))) _ _ (m .args .layout) (m .args .a) _ (is-imm (m .args .h) (search needs) 0 (lit< tt) e) (
+      refl,
+      c .move-imm .ensures,
     )
 
 returns-3 : tie.Need-returns-3
 returns-3 c =
-    let m = c .before .before .before .before in
-    let e : field (m .args .h) 13 3 ≡ 2 = omega arith in (
-      simp e (c .visit-registers .ensures .0 _ (m .args .layout) (m .args .a)),
-      simp e (c .visit-registers .ensures .1 (m .args .a .0)),
+    let m = c .before .before in
+    let e : field (m .args .h) 11 5 ≡ 5 = omega (arith, c .before .bits .ensures) in
+    as-known (decodeOf (m .args .h)) (Defined (CmpImm (field (m .args .h) 8 3) (field (m .args .h) 0 8))) _ _ (m .args .layout) (m .args .a) _ (is-imm (m .args .h) (search needs) 1 (lit< tt) e) (
+      refl,
+      refl,
     )
 
 returns-4 : tie.Need-returns-4
 returns-4 c =
     let m = c .before .before .before .before in
-    let e : field (m .args .h) 13 3 ≡ 3 = omega arith in (
-      simp e (c .visit-memory .ensures .0 (m .args .a)),
-      simp e (c .visit-memory .ensures .1 (m .args .a .0)),
+    let e : field (m .args .h) 11 5 ≡ 8 = omega (arith, c .before .before .before .bits .ensures) in
+    as-known (decodeOf (m .args .h)) (registersOf (m .args .h)) _ _ (m .args .layout) (m .args .a) _ (is-registers (m .args .h) (search needs) e) (
+      c .visit-registers .ensures .0 _ (m .args .layout) (m .args .a),
+      c .visit-registers .ensures .1 (m .args .a .0),
     )
 
 returns-5 : tie.Need-returns-5
 returns-5 c =
-    let m = c .before .before in
-    let e : field (m .args .h) 13 3 ≡ 4 = omega arith in (
-      simp e,
-      simp e,
+    let m = c .before .before .before .before in
+    let e : field (m .args .h) 11 5 ≡ 12 = omega (arith, c .before .before .before .bits .ensures) in
+    as-known (decodeOf (m .args .h)) (Defined (Str (field (m .args .h) 6 5) (field (m .args .h) 3 3) (field (m .args .h) 0 3))) _ _ (m .args .layout) (m .args .a) _ (is-memory (m .args .h) (search needs) 0 (lit< tt) e) (
+      c .check-halfword .ensures (m .args .a),
+      refl,
     )
 
 returns-6 : tie.Need-returns-6
 returns-6 c =
-    let m = c .before .before .before .before in
-    let e : field (m .args .h) 13 3 ≡ 5 = omega arith in (
-      simp e (c .visit-add-pc .ensures .0 _ (m .args .layout)),
-      simp e (c .visit-add-pc .ensures .1),
+    let m = c .before .before .before .before .before .before .before in
+    let e : field (m .args .h) 11 5 ≡ 13 = omega (arith, c .before .before .before .before .before .before .bits .ensures) in
+    as-known (decodeOf (m .args .h)) (Defined (Ldr (field (m .args .h) 6 5) (field (m .args .h) 3 3) (field (m .args .h) 0 3))) _ _ (m .args .layout) (m .args .a) _ (is-memory (m .args .h) (search needs) 1 (lit< tt) e) (
+      c .before .before .before .check-halfword2 .ensures (m .args .a),
+      c .load .ensures ∙ simp (c .before .unknown .ensures),
     )
 
 returns-7 : tie.Need-returns-7
 returns-7 c =
-    let m = c .before .before .before in
-    let e : field (m .args .h) 13 3 ≡ 6 = omega arith in (
-      simp e (c .visit-branch .ensures _),
-      simp e (sym (after-branch (m .args .a .0) (m .args .h) _)),
+    let m = c .before .before .before .before in
+    let e : field (m .args .h) 11 5 ≡ 14 = omega (arith, c .before .before .before .bits .ensures) in
+    as-known (decodeOf (m .args .h)) (Defined (Strb (field (m .args .h) 6 5) (field (m .args .h) 3 3) (field (m .args .h) 0 3))) _ _ (m .args .layout) (m .args .a) _ (is-memory (m .args .h) (search needs) 2 (lit< tt) e) (
+      c .check-byte .ensures (m .args .a),
+      refl,
     )
 
 returns-8 : tie.Need-returns-8
 returns-8 c =
+    let m = c .before .before .before .before .before .before .before in
+    let e : field (m .args .h) 11 5 ≡ 15 = omega (arith, c .before .before .before .before .before .before .bits .ensures) in
+    as-known (decodeOf (m .args .h)) (Defined (Ldrb (field (m .args .h) 6 5) (field (m .args .h) 3 3) (field (m .args .h) 0 3))) _ _ (m .args .layout) (m .args .a) _ (is-memory (m .args .h) (search needs) 3 (lit< tt) e) (
+      c .before .before .before .check-byte2 .ensures (m .args .a),
+      c .load2 .ensures ∙ simp (c .before .byte .ensures),
+    )
+
+returns-9 : tie.Need-returns-9
+returns-9 c =
+    let m = c .before .before .before .before in
+    let e : field (m .args .h) 11 5 ≡ 20 = omega (arith, c .before .before .before .bits .ensures) in
+    as-known (decodeOf (m .args .h)) (Defined (AddPc (field (m .args .h) 8 3) (field (m .args .h) 0 8))) _ _ (m .args .layout) (m .args .a) _ (is-add-pc (m .args .h) (search needs) e) (
+      refl,
+      c .add-pc .ensures,
+    )
+
+returns-10 : tie.Need-returns-10
+returns-10 c =
+    let m = c .before .before .before .before in
+    let e : field (m .args .h) 11 5 ≡ 26 = omega (arith, c .before .before .before .bits .ensures) in
+    as-known (decodeOf (m .args .h)) (Defined (Branch (field (m .args .h) 8 3) (field (m .args .h) 0 8))) _ _ (m .args .layout) (m .args .a) _ (is-lower-branch (m .args .h) (search needs) e) (
+      c .check-branch .ensures ∙ simp (c .before .bits2 .ensures),
+      refl,
+    )
+
+returns-11 : tie.Need-returns-11
+returns-11 c =
+    let m = c .before .before .before in
+    let e : field (m .args .h) 11 5 ≡ 27 = omega (arith, c .before .before .bits .ensures) in
+    as-known (decodeOf (m .args .h)) (branchOf (m .args .h)) _ _ (m .args .layout) (m .args .a) _ (is-upper-branch (m .args .h) (search needs) e) (
+      c .visit-branch .ensures _,
+      sym (after-branch (m .args .a .0) (m .args .h) _),
+    )
+
+returns-12 : tie.Need-returns-12
+returns-12 c =
     let m = c .before .before in
-    let r = c .match .rest in
-    let q : 7 ≤ c .before .bits .result = skip 6 (skip 5 (skip 4 (skip 3 (skip 2 (skip 1 (skip 0 zero-le (r .0 .0 .0 .0 .0 .0 .1)) (r .0 .0 .0 .0 .0 .1)) (r .0 .0 .0 .0 .1)) (r .0 .0 .0 .1)) (r .0 .0 .1)) (r .0 .1)) (r .1) in
-    let p : 7 ≤ field (m .args .h) 13 3 = rw (c .before .bits .ensures) at q in
-    (simp entry-past, simp entry-past)
+    as-known (decodeOf (m .args .h)) Undefined _ _ (m .args .layout) (m .args .a) _ (is-none (m .args .h) (search needs) (c .before .bits .result) (c .before .bits .ensures) (c .match .rest)) (
+      refl,
+      refl,
+    )
 
 pub visit-spec : {M : Type 1} → statement M
 visit-spec =
@@ -81,10 +126,19 @@ visit-spec =
     (λ c κs. search needs)
     (λ c κs. search needs)
     (λ c κs. search needs)
+    (λ c κs. (c .before .before .before .pre, omega (arith, c .before .before .bits .ensures)))
     (λ c κs. search needs)
     (λ c κs. search needs)
     (λ c κs. search needs)
     (λ c κs. search needs)
+    (λ c κs. search needs)
+    (λ c κs. search needs)
+    (λ c κs. search needs)
+    (λ c κs. search needs)
+    (λ c κs. search needs)
+    (λ c κs. search needs)
+    (λ c κs. search needs)
+    (λ c κs. omega (arith, c .before .bits .ensures))
     returns
     returns-2
     returns-3
@@ -92,4 +146,8 @@ visit-spec =
     returns-5
     returns-6
     returns-7
-    returns-8)
+    returns-8
+    returns-9
+    returns-10
+    returns-11
+    returns-12)

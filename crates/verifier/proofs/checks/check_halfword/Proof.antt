@@ -1,0 +1,20 @@
+-- `check_halfword` is right because its fields are the definition's.
+use mathlib.Core.Path.{_∙_}
+use borrow.Author.Needs.{needs}
+use Rattle.verifier.proofs.checks.check_halfword.Statement.{statement}
+use Rattle.verifier.proofs.checks.check_halfword.Tie as tie
+
+returns : tie.Need-returns
+returns c a = c .check-access .ensures ∙ simp (c .before .before .value-at .ensures, c .before .before .before .bits .ensures, c .before .bits2 .ensures)
+
+pub check-halfword-spec : {M : Type 1} → statement M
+check-halfword-spec =
+    tie.close
+    (tie.spec
+    (λ c κs. search needs)
+    (λ c κs. search needs)
+    (λ c κs. search needs)
+    (λ c. search needs)
+    (λ c. search needs)
+    (λ c κs. search needs)
+    returns)
