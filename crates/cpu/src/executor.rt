@@ -109,23 +109,14 @@ fn execute(regs: &mut [u16; 16], k: Control, memory: &mut [u8], h: u16) -> Execu
 {
     match bits(h, 11, 5) {
         0 => execute_halt(k, h),
-        4 => completed(instructions::mov_imm(regs, k, bits(h, 8, 3), bits(h, 0, 8))),
-        5 => completed(instructions::cmp_imm(regs, k, bits(h, 8, 3), bits(h, 0, 8))),
+        4 => completed(instructions::mov_imm(regs, k, h)),
+        5 => completed(instructions::cmp_imm(regs, k, h)),
         8 => execute_registers(regs, k, h),
-        12 => instructions::str(regs, k, memory, bits(h, 6, 5), bits(h, 3, 3), bits(h, 0, 3)),
-        13 => instructions::ldr(regs, k, memory, bits(h, 6, 5), bits(h, 3, 3), bits(h, 0, 3)),
-        14 => instructions::strb(regs, k, memory, bits(h, 6, 5), bits(h, 3, 3), bits(h, 0, 3)),
-        15 => {
-            completed(instructions::ldrb(
-                regs,
-                k,
-                memory,
-                bits(h, 6, 5),
-                bits(h, 3, 3),
-                bits(h, 0, 3),
-            ))
-        }
-        20 => completed(instructions::add_pc(regs, k, bits(h, 8, 3), bits(h, 0, 8))),
+        12 => instructions::str(regs, k, memory, h),
+        13 => instructions::ldr(regs, k, memory, h),
+        14 => instructions::strb(regs, k, memory, h),
+        15 => completed(instructions::ldrb(regs, k, memory, h)),
+        20 => completed(instructions::add_pc(regs, k, h)),
         26 => completed(instructions::branch(k, bits(h, 8, 3), bits(h, 0, 8))),
         27 => execute_branch(k, h),
         _ => stopped(k, UNDEFINED),

@@ -1,4 +1,6 @@
-// One function an instruction, in the manual's order and named after its page.
+// One function an instruction, in the manual's order and named after its page. It
+// takes its fields out of the halfword itself, or is handed them where several
+// instructions have one format.
 use super::alu::compare;
 use super::alu::difference;
 use super::alu::difference_status;
@@ -21,12 +23,14 @@ use super::memory::store_byte;
 use super::outcome::MISALIGNED;
 use super::status::condition;
 use board::ByteAddress;
+use board::bits;
 use board::halfword_at;
 use board::put_halfword;
 ghost use mathlib.Core.Path.{_≡_};
 ghost use Prim.Native.Nat.{_+_, _*_, _/_, _<_};
 ghost use lib.ListN.{length};
 ghost use Rattle.board.specs.Address.{wrap, memoryBytes};
+ghost use Rattle.board.specs.Field.{field};
 ghost use Rattle.cpu.specs.Step.{addHighOf, addPcOf, andOf, asrOf, cmpImmOf, cmpOf, cmpHighOf, eorOf, ldrOf, ldrbOf, movImmOf, movHighOf, negOf, strOf, strbOf, tstOf};
 ghost use Rattle.cpu.specs.Held.{held, branched, Whole, Holds, Leads};
 
@@ -50,12 +54,12 @@ fn pc_relative(pc: u16, imm: u8) -> u16
 }
 
 // ADD(2).
-pub(crate) fn add_pc(regs: &mut [u16; 16], k: Control, rd: u8, imm: u8) -> Control
-    requires { ⌜ Whole (now regs) × (rd < 8) ⌝ }
-    ensures { λ r. ⌜ Holds (now (regs .exit)) r (addPcOf rd imm (held (now (regs .entry)) k)) ⌝ }
+pub(crate) fn add_pc(regs: &mut [u16; 16], k: Control, h: u16) -> Control
+    requires { ⌜ Whole (now regs) ⌝ }
+    ensures { λ r. ⌜ Holds (now (regs .exit)) r (addPcOf (field h 8 3) (field h 0 8) (held (now (regs .entry)) k)) ⌝ }
 {
-    let r = pc_relative(k.pc, imm);
-    write_low(regs, k.pc, rd, r, status_in(k))
+    let r = pc_relative(k.pc, bits(h, 0, 8));
+    write_low(regs, k.pc, bits(h, 8, 3), r, status_in(k))
 }
 
 // AND.
@@ -92,12 +96,12 @@ pub(crate) fn branch(k: Control, cond: u8, offset: u8) -> Control
 }
 
 // CMP(1).
-pub(crate) fn cmp_imm(regs: &[u16; 16], k: Control, rd: u8, imm: u8) -> Control
-    requires { ⌜ Whole (now regs) × (rd < 8) ⌝ }
-    ensures { λ r. ⌜ Holds (now (regs .entry)) r (cmpImmOf rd imm (held (now (regs .entry)) k)) ⌝ }
+pub(crate) fn cmp_imm(regs: &[u16; 16], k: Control, h: u16) -> Control
+    requires { ⌜ Whole (now regs) ⌝ }
+    ensures { λ r. ⌜ Holds (now (regs .entry)) r (cmpImmOf (field h 8 3) (field h 0 8) (held (now (regs .entry)) k)) ⌝ }
 {
-    let a = regs[rd as usize];
-    advance(k.pc, compare(a, imm as u16))
+    let a = regs[bits(h, 8, 3) as usize];
+    advance(k.pc, compare(a, bits(h, 0, 8) as u16))
 }
 
 // CMP(2).
@@ -138,49 +142,35 @@ fn effective_address(base: u16, distance: u16) -> u16
 }
 
 // LDR, or stop 20.
-pub(crate) fn ldr(
-    regs: &mut [u16; 16],
-    k: Control,
-    memory: &[u8],
-    offset: u8,
-    rb: u8,
-    rd: u8,
-) -> Executed
-    requires { ⌜ Whole (now regs) × (length (now memory) ≡ memoryBytes) × (rb < 8) × (rd < 8) ⌝ }
-    ensures { λ r. ⌜ Leads (now (regs .exit)) r (now (memory .entry)) (ldrOf offset rb rd (held (now (regs .entry)) k) (now (memory .entry))) ⌝ }
+pub(crate) fn ldr(regs: &mut [u16; 16], k: Control, memory: &[u8], h: u16) -> Executed
+    requires { ⌜ Whole (now regs) × (length (now memory) ≡ memoryBytes) ⌝ }
+    ensures { λ r. ⌜ Leads (now (regs .exit)) r (now (memory .entry)) (ldrOf (field h 6 5) (field h 3 3) (field h 0 3) (held (now (regs .entry)) k) (now (memory .entry))) ⌝ }
 {
-    let a = effective_address(regs[rb as usize], 4 * (offset as u16));
+    let a = effective_address(regs[bits(h, 3, 3) as usize], 4 * (bits(h, 6, 5) as u16));
     if a % 4 != 0 {
         return stopped(k, MISALIGNED);
     }
     let x = halfword_at(memory, a as usize);
-    completed(write_low(regs, k.pc, rd, x, status_in(k)))
+    completed(write_low(regs, k.pc, bits(h, 0, 3), x, status_in(k)))
 }
 
 // LDRB.
-pub(crate) fn ldrb(
-    regs: &mut [u16; 16],
-    k: Control,
-    memory: &[u8],
-    offset: u8,
-    rb: u8,
-    rd: u8,
-) -> Control
-    requires { ⌜ Whole (now regs) × (length (now memory) ≡ memoryBytes) × (rb < 8) × (rd < 8) ⌝ }
-    ensures { λ r. ⌜ Holds (now (regs .exit)) r (ldrbOf offset rb rd (held (now (regs .entry)) k) (now (memory .entry))) ⌝ }
+pub(crate) fn ldrb(regs: &mut [u16; 16], k: Control, memory: &[u8], h: u16) -> Control
+    requires { ⌜ Whole (now regs) × (length (now memory) ≡ memoryBytes) ⌝ }
+    ensures { λ r. ⌜ Holds (now (regs .exit)) r (ldrbOf (field h 6 5) (field h 3 3) (field h 0 3) (held (now (regs .entry)) k) (now (memory .entry))) ⌝ }
 {
-    let a = effective_address(regs[rb as usize], offset as u16);
+    let a = effective_address(regs[bits(h, 3, 3) as usize], bits(h, 6, 5) as u16);
     let x = load_byte(memory, a as usize);
-    write_low(regs, k.pc, rd, x, status_in(k))
+    write_low(regs, k.pc, bits(h, 0, 3), x, status_in(k))
 }
 
 // MOV(1).
-pub(crate) fn mov_imm(regs: &mut [u16; 16], k: Control, rd: u8, imm: u8) -> Control
-    requires { ⌜ Whole (now regs) × (rd < 8) ⌝ }
-    ensures { λ r. ⌜ Holds (now (regs .exit)) r (movImmOf rd imm (held (now (regs .entry)) k)) ⌝ }
+pub(crate) fn mov_imm(regs: &mut [u16; 16], k: Control, h: u16) -> Control
+    requires { ⌜ Whole (now regs) ⌝ }
+    ensures { λ r. ⌜ Holds (now (regs .exit)) r (movImmOf (field h 8 3) (field h 0 8) (held (now (regs .entry)) k)) ⌝ }
 {
-    let r = imm as u16;
-    write_low(regs, k.pc, rd, r, result_status(r, status_in(k)))
+    let r = bits(h, 0, 8) as u16;
+    write_low(regs, k.pc, bits(h, 8, 3), r, result_status(r, status_in(k)))
 }
 
 // MOV(2).
@@ -204,40 +194,26 @@ pub(crate) fn neg(regs: &mut [u16; 16], k: Control, rs: u8, rd: u8) -> Control
 }
 
 // STR, or stop 20.
-pub(crate) fn str(
-    regs: &[u16; 16],
-    k: Control,
-    memory: &mut [u8],
-    offset: u8,
-    rb: u8,
-    rd: u8,
-) -> Executed
-    requires { ⌜ Whole (now regs) × (length (now memory) ≡ memoryBytes) × (rb < 8) × (rd < 8) ⌝ }
-    ensures { λ r. ⌜ Leads (now (regs .entry)) r (now (memory .exit)) (strOf offset rb rd (held (now (regs .entry)) k) (now (memory .entry))) ⌝ }
+pub(crate) fn str(regs: &[u16; 16], k: Control, memory: &mut [u8], h: u16) -> Executed
+    requires { ⌜ Whole (now regs) × (length (now memory) ≡ memoryBytes) ⌝ }
+    ensures { λ r. ⌜ Leads (now (regs .entry)) r (now (memory .exit)) (strOf (field h 6 5) (field h 3 3) (field h 0 3) (held (now (regs .entry)) k) (now (memory .entry))) ⌝ }
 {
-    let a = effective_address(regs[rb as usize], 4 * (offset as u16));
+    let a = effective_address(regs[bits(h, 3, 3) as usize], 4 * (bits(h, 6, 5) as u16));
     if a % 4 != 0 {
         return stopped(k, MISALIGNED);
     }
-    let x = regs[rd as usize];
+    let x = regs[bits(h, 0, 3) as usize];
     put_halfword(memory, a as usize, x);
     completed(advance(k.pc, status_in(k)))
 }
 
 // STRB.
-pub(crate) fn strb(
-    regs: &[u16; 16],
-    k: Control,
-    memory: &mut [u8],
-    offset: u8,
-    rb: u8,
-    rd: u8,
-) -> Executed
-    requires { ⌜ Whole (now regs) × (length (now memory) ≡ memoryBytes) × (rb < 8) × (rd < 8) ⌝ }
-    ensures { λ r. ⌜ Leads (now (regs .entry)) r (now (memory .exit)) (strbOf offset rb rd (held (now (regs .entry)) k) (now (memory .entry))) ⌝ }
+pub(crate) fn strb(regs: &[u16; 16], k: Control, memory: &mut [u8], h: u16) -> Executed
+    requires { ⌜ Whole (now regs) × (length (now memory) ≡ memoryBytes) ⌝ }
+    ensures { λ r. ⌜ Leads (now (regs .entry)) r (now (memory .exit)) (strbOf (field h 6 5) (field h 3 3) (field h 0 3) (held (now (regs .entry)) k) (now (memory .entry))) ⌝ }
 {
-    let a = effective_address(regs[rb as usize], offset as u16);
-    let x = regs[rd as usize];
+    let a = effective_address(regs[bits(h, 3, 3) as usize], bits(h, 6, 5) as u16);
+    let x = regs[bits(h, 0, 3) as usize];
     store_byte(memory, a as usize, x);
     completed(advance(k.pc, status_in(k)))
 }

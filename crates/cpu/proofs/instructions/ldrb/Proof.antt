@@ -1,20 +1,33 @@
--- The byte at the address goes to Rd; no flag changes.
-use Rattle.cpu.proofs.Ends.{low-is}
+-- The byte at the address goes to Rd.
+use native.Mathlib.Omega.{arith}
+use Rattle.board.specs.Field.{field}
 use Rattle.cpu.specs.Step.{ldrbOf}
+use Rattle.cpu.proofs.Ends.{low-is}
 use borrow.Author.Needs.{needs}
 use Rattle.cpu.proofs.instructions.ldrb.Statement.{statement}
 use Rattle.cpu.proofs.instructions.ldrb.Tie as tie
 
-pub ldrb-spec : {M : Type 1} → statement M
+returns : tie.Need-returns
 unfolding ldrbOf
+returns c =
+    let m = c .before .before .before .before .before .before .before .before .before .before in
+    simp (low-is (m .args .regs .now) (m .args .k .pc) (m .pre .0) (field (m .args .h) 3 3) (omega arith))
+    (simp (c .before .status-in .ensures, c .before .before .bits3 .ensures, c .before .before .before .before .load-byte .ensures, c .before .before .before .before .before .effective-address .ensures, c .before .before .before .before .before .before .bits2 .ensures, c .before .before .before .before .before .before .before .before .bits .ensures) at (c .write-low .ensures))
+
+pub ldrb-spec : {M : Type 1} → statement M
 ldrb-spec =
     tie.close
     (tie.spec
+    (λ c κs. search needs)
+    (λ c. search needs)
     (λ c. search needs)
     (λ c. search needs)
     (λ c κs. search needs)
     (λ c. search needs)
     (λ c κs. search needs)
+    (λ c. search needs)
     (λ c κs. search needs)
     (λ c κs. search needs)
-    (λ c. simp (low-is (c .before .before .before .before .before .before .before .args .regs .now) (c .before .before .before .before .before .before .before .args .k .pc) (c .before .before .before .before .before .before .before .pre .0) (c .before .before .before .before .before .before .before .args .rb) (search needs)) (simp (c .before .status-in .ensures, c .before .before .before .load-byte .ensures, c .before .before .before .before .effective-address .ensures) at (c .write-low .ensures))))
+    (λ c κs. search needs)
+    (λ c κs. search needs)
+    returns)
