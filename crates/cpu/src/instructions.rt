@@ -31,8 +31,16 @@ ghost use Prim.Native.Nat.{_+_, _*_, _/_, _<_};
 ghost use lib.ListN.{length};
 ghost use Rattle.board.specs.Address.{wrap, memoryBytes};
 ghost use Rattle.board.specs.Field.{field};
-ghost use Rattle.cpu.specs.Step.{addHighOf, addPcOf, andOf, asrOf, cmpImmOf, cmpOf, cmpHighOf, eorOf, ldrOf, ldrbOf, movImmOf, movHighOf, negOf, strOf, strbOf, tstOf};
+ghost use Rattle.cpu.specs.Step.{resulting, addHighOf, addPcOf, andOf, asrOf, cmpImmOf, cmpOf, cmpHighOf, eorOf, ldrOf, ldrbOf, movImmOf, movHighOf, negOf, strOf, strbOf, tstOf};
 ghost use Rattle.cpu.specs.Held.{held, branched, Whole, Holds, Leads};
+
+// Ends an instruction with a result for one of R0 to R7 of which N and Z speak.
+fn leave(regs: &mut [u16; 16], k: Control, rd: u8, r: u16) -> Control
+    requires { ⌜ Whole (now regs) × (rd < 8) ⌝ }
+    ensures { λ e. ⌜ Holds (now (regs .exit)) e (resulting rd r (held (now (regs .entry)) k)) ⌝ }
+{
+    write_low(regs, k.pc, rd, r, result_status(r, status_in(k)))
+}
 
 // ADD(1).
 pub(crate) fn add_high(regs: &mut [u16; 16], k: Control, rs: u8, rd: u8) -> Control
@@ -68,7 +76,7 @@ pub(crate) fn and(regs: &mut [u16; 16], k: Control, rs: u8, rd: u8) -> Control
     ensures { λ r. ⌜ Holds (now (regs .exit)) r (andOf rs rd (held (now (regs .entry)) k)) ⌝ }
 {
     let r = regs[rd as usize] & regs[rs as usize];
-    write_low(regs, k.pc, rd, r, result_status(r, status_in(k)))
+    leave(regs, k, rd, r)
 }
 
 // ASR: both operands are read before Rd is written.
@@ -131,7 +139,7 @@ pub(crate) fn eor(regs: &mut [u16; 16], k: Control, rs: u8, rd: u8) -> Control
     ensures { λ r. ⌜ Holds (now (regs .exit)) r (eorOf rs rd (held (now (regs .entry)) k)) ⌝ }
 {
     let r = regs[rd as usize] ^ regs[rs as usize];
-    write_low(regs, k.pc, rd, r, result_status(r, status_in(k)))
+    leave(regs, k, rd, r)
 }
 
 // Where a load or a store goes: a distance past its base register.
@@ -169,8 +177,7 @@ pub(crate) fn mov_imm(regs: &mut [u16; 16], k: Control, h: u16) -> Control
     requires { ⌜ Whole (now regs) ⌝ }
     ensures { λ r. ⌜ Holds (now (regs .exit)) r (movImmOf (field h 8 3) (field h 0 8) (held (now (regs .entry)) k)) ⌝ }
 {
-    let r = bits(h, 0, 8) as u16;
-    write_low(regs, k.pc, bits(h, 8, 3), r, result_status(r, status_in(k)))
+    leave(regs, k, bits(h, 8, 3), bits(h, 0, 8) as u16)
 }
 
 // MOV(2).

@@ -9,6 +9,20 @@ use borrow.Author.Needs.{needs}
 use Rattle.cpu.proofs.executor.execute_registers.Statement.{statement}
 use Rattle.cpu.proofs.executor.execute_registers.Tie as tie
 
+returns : tie.Need-returns
+returns c memory =
+    let m = c .before .before .before .before in
+    let f : field (m .args .h) 10 1 ≡ 0 = omega (arith, c .before .before .before .bits .ensures, c .before .before .if1 .taken) in
+    let e : field (m .args .h) 10 3 ≡ 0 = one-bit (m .args .h) (m .pre .1) ∙ f in
+    leads-as (registersOf (m .args .h)) (aluOf (m .args .h)) _ memory memory _ _ (simp e) (c .execute-alu .ensures memory)
+
+returns-2 : tie.Need-returns-2
+returns-2 c memory =
+    let m = c .before .before .before .before in
+    let f : field (m .args .h) 10 1 ≡ 1 = omega (arith, c .before .before .before .bits .ensures, c .before .before .if1 .left) in
+    let e : field (m .args .h) 10 3 ≡ 1 = one-bit (m .args .h) (m .pre .1) ∙ f in
+    leads-as (registersOf (m .args .h)) (highOf (m .args .h)) _ memory memory _ _ (simp e) (c .execute-high .ensures memory)
+
 pub execute-registers-spec : {M : Type 1} → statement M
 execute-registers-spec =
     tie.close
@@ -16,5 +30,5 @@ execute-registers-spec =
     (λ c κs. search needs)
     (λ c κs. search needs)
     (λ c κs. search needs)
-    (λ c. λ memory. let f : field (c .before .before .before .before .args .h) 10 1 ≡ 0 = omega (arith, c .before .before .before .bits .ensures, c .before .before .if1 .taken) in let e : field (c .before .before .before .before .args .h) 10 3 ≡ 0 = one-bit (c .before .before .before .before .args .h) (c .before .before .before .before .pre .1) ∙ f in leads-as (registersOf (c .before .before .before .before .args .h)) (aluOf (c .before .before .before .before .args .h)) _ memory memory _ _ (simp e) (c .execute-alu .ensures memory))
-    (λ c. λ memory. let f : field (c .before .before .before .before .args .h) 10 1 ≡ 1 = omega (arith, c .before .before .before .bits .ensures, c .before .before .if1 .left) in let e : field (c .before .before .before .before .args .h) 10 3 ≡ 1 = one-bit (c .before .before .before .before .args .h) (c .before .before .before .before .pre .1) ∙ f in leads-as (registersOf (c .before .before .before .before .args .h)) (highOf (c .before .before .before .before .args .h)) _ memory memory _ _ (simp e) (c .execute-high .ensures memory)))
+    returns
+    returns-2)

@@ -4,6 +4,18 @@ use borrow.Author.Needs.{needs}
 use Rattle.cpu.proofs.held.write.Statement.{statement}
 use Rattle.cpu.proofs.held.write.Tie as tie
 
+returns : tie.Need-returns
+returns c =
+    let m = c .before .before in
+    write-pc-holds (m .args .regs .now) (m .args .pc) (m .pre .0) (m .args .rd) (m .args .x) (c .control-at .result) (m .args .status)
+    (c .before .if1 .taken) (c .control-at .ensures)
+
+returns-2 : tie.Need-returns-2
+returns-2 c =
+    let m = c .before .before in
+    write-holds (m .args .regs .now) (m .args .pc) (m .pre .0) (m .args .rd) (m .args .x) (c .advance .result) (m .args .status)
+    (c .before .if1 .left) (c .advance .ensures)
+
 pub write-spec : {M : Type 1} → statement M
 write-spec =
     tie.close
@@ -12,5 +24,5 @@ write-spec =
     (λ c. search needs)
     (λ c κs. search needs)
     (λ c κs. search needs)
-    (λ c. write-pc-holds (c .before .before .args .regs .now) (c .before .before .args .pc) (c .before .before .pre .0) (c .before .before .args .rd) (c .before .before .args .x) (c .control-at .result) (c .before .before .args .status) (c .before .if1 .taken) (c .control-at .ensures))
-    (λ c. write-holds (c .before .before .args .regs .now) (c .before .before .args .pc) (c .before .before .pre .0) (c .before .before .args .rd) (c .before .before .args .x) (c .advance .result) (c .before .before .args .status) (c .before .if1 .left) (c .advance .ensures)))
+    returns
+    returns-2)

@@ -5,6 +5,12 @@ use borrow.Author.Needs.{needs}
 use Rattle.cpu.proofs.held.write_low.Statement.{statement}
 use Rattle.cpu.proofs.held.write_low.Tie as tie
 
+returns : tie.Need-returns
+returns c =
+    let m = c .before in
+    write-holds (m .args .regs .now) (m .args .pc) (m .pre .0) (m .args .rd) (m .args .x) (c .advance .result) (m .args .status)
+    (λ e. omega (arith, e, m .pre .1)) (c .advance .ensures)
+
 pub write-low-spec : {M : Type 1} → statement M
 write-low-spec =
     tie.close
@@ -12,4 +18,4 @@ write-low-spec =
     (λ c. search needs)
     (λ c. search needs)
     (λ c κs. search needs)
-    (λ c. write-holds (c .before .args .regs .now) (c .before .args .pc) (c .before .pre .0) (c .before .args .rd) (c .before .args .x) (c .advance .result) (c .before .args .status) (λ e. omega (arith, e, c .before .pre .1)) (c .advance .ensures)))
+    returns)

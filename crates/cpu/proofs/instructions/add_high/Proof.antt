@@ -5,6 +5,13 @@ use borrow.Author.Needs.{needs}
 use Rattle.cpu.proofs.instructions.add_high.Statement.{statement}
 use Rattle.cpu.proofs.instructions.add_high.Tie as tie
 
+returns : tie.Need-returns
+unfolding addHighOf
+returns c =
+    let m = c .before .before .before .before .before .before in
+    simp (c .before .before .before .sum .ensures, set-again (m .args .regs .now) (m .args .k .pc)) at
+    (flags-as _ _ _ (c .before .sum-status .result) _ (c .before .sum-status .ensures) (c .write .ensures))
+
 pub add-high-spec : {M : Type 1} → statement M
 unfolding addHighOf
 add-high-spec =
@@ -18,4 +25,4 @@ add-high-spec =
     (λ c κs. search needs)
     (λ c κs. search needs)
     (λ c κs. (set-whole (c .before .before .before .before .before .args .regs .now) (c .before .before .before .before .before .args .k .pc) (c .before .before .before .before .before .pre .0), search needs))
-    (λ c. simp (c .before .before .before .sum .ensures, set-again (c .before .before .before .before .before .before .args .regs .now) (c .before .before .before .before .before .before .args .k .pc)) at (flags-as _ _ _ (c .before .sum-status .result) _ (c .before .sum-status .ensures) (c .write .ensures))))
+    returns)

@@ -1,12 +1,18 @@
--- The result is the definition's, and N and Z are set from it.
-use Rattle.cpu.proofs.Ends.{low-is, flags-as}
+-- Both registers are read as the array has them.
 use Rattle.cpu.specs.Step.{andOf}
+use Rattle.cpu.proofs.Ends.{low-is}
 use borrow.Author.Needs.{needs}
 use Rattle.cpu.proofs.instructions.and.Statement.{statement}
 use Rattle.cpu.proofs.instructions.and.Tie as tie
 
-pub and-spec : {M : Type 1} → statement M
+returns : tie.Need-returns
 unfolding andOf
+returns c =
+    let m = c .before .before .before .before in
+    let low = low-is (m .args .regs .now) (m .args .k .pc) (m .pre .0) in
+    simp (low (m .args .rd) (search needs), low (m .args .rs) (search needs)) (c .leave .ensures)
+
+pub and-spec : {M : Type 1} → statement M
 and-spec =
     tie.close
     (tie.spec
@@ -15,6 +21,4 @@ and-spec =
     (λ c. search needs)
     (λ c. search needs)
     (λ c κs. search needs)
-    (λ c κs. search needs)
-    (λ c κs. search needs)
-    (λ c. simp (low-is (c .before .before .before .before .before .before .args .regs .now) (c .before .before .before .before .before .before .args .k .pc) (c .before .before .before .before .before .before .pre .0) (c .before .before .before .before .before .before .args .rd) (search needs), low-is (c .before .before .before .before .before .before .args .regs .now) (c .before .before .before .before .before .before .args .k .pc) (c .before .before .before .before .before .before .pre .0) (c .before .before .before .before .before .before .args .rs) (search needs)) (simp (c .before .before .status-in .ensures) at (flags-as _ _ _ (c .before .result-status .result) _ (c .before .result-status .ensures) (c .write-low .ensures)))))
+    returns)

@@ -5,8 +5,14 @@ use borrow.Author.Needs.{needs}
 use Rattle.cpu.proofs.instructions.asr.Statement.{statement}
 use Rattle.cpu.proofs.instructions.asr.Tie as tie
 
-pub asr-spec : {M : Type 1} → statement M
+returns : tie.Need-returns
 unfolding asrOf
+returns c =
+    let m = c .before .before .before .before .before .before .before in
+    simp (low-is (m .args .regs .now) (m .args .k .pc) (m .pre .0) (m .args .rd) (search needs), low-is (m .args .regs .now) (m .args .k .pc) (m .pre .0) (m .args .rs) (search needs))
+    (simp (c .before .before .status-in .ensures, c .before .before .before .before .shift .ensures) at (flags-as _ _ _ (c .before .shift-status .result) _ (c .before .shift-status .ensures) (c .write-low .ensures)))
+
+pub asr-spec : {M : Type 1} → statement M
 asr-spec =
     tie.close
     (tie.spec
@@ -18,4 +24,4 @@ asr-spec =
     (λ c κs. search needs)
     (λ c κs. search needs)
     (λ c κs. search needs)
-    (λ c. simp (low-is (c .before .before .before .before .before .before .before .args .regs .now) (c .before .before .before .before .before .before .before .args .k .pc) (c .before .before .before .before .before .before .before .pre .0) (c .before .before .before .before .before .before .before .args .rd) (search needs), low-is (c .before .before .before .before .before .before .before .args .regs .now) (c .before .before .before .before .before .before .before .args .k .pc) (c .before .before .before .before .before .before .before .pre .0) (c .before .before .before .before .before .before .before .args .rs) (search needs)) (simp (c .before .before .status-in .ensures, c .before .before .before .before .shift .ensures) at (flags-as _ _ _ (c .before .shift-status .result) _ (c .before .shift-status .ensures) (c .write-low .ensures)))))
+    returns)

@@ -10,6 +10,20 @@ use borrow.Author.Needs.{needs}
 use Rattle.cpu.proofs.instructions.branch.Statement.{statement}
 use Rattle.cpu.proofs.instructions.branch.Tie as tie
 
+returns : tie.Need-returns
+returns c =
+    let m = c .before .before .before .before .before in
+    let status-in = c .before .before .before .before .status-in in
+    c .control-at .ensures ∙ (rw (status-in .ensures) (taken (m .args .cond) (m .args .offset) (m .args .k) _ (c .before .before .before .condition .ensures ∙ ap (λ (s : Status). conditionOf (m .args .cond) (flagsIn s)) (status-in .ensures)) (c .before .before .if1 .taken) (c .before .branch-target .result) (c .before .branch-target .ensures)))
+
+returns-2 : tie.Need-returns-2
+returns-2 c =
+    let m = c .before .before .before .before in
+    let status-in = c .before .before .before .status-in in
+    passed (m .args .cond) (m .args .offset) (m .args .k) _
+    (c .before .before .condition .ensures ∙ ap (λ (s : Status). conditionOf (m .args .cond) (flagsIn s)) (status-in .ensures)) (c .before .if1 .left)
+    (c .advance .result) (c .advance .ensures ∙ ap (λ (s : Status). control (wrap (m .args .k .pc + 2)) s) (status-in .ensures))
+
 pub branch-spec : {M : Type 1} → statement M
 branch-spec =
     tie.close
@@ -19,5 +33,5 @@ branch-spec =
     (λ c κs. search needs)
     (λ c κs. search needs)
     (λ c κs. search needs)
-    (λ c. c .control-at .ensures ∙ (rw (c .before .before .before .before .status-in .ensures) (taken (c .before .before .before .before .before .args .cond) (c .before .before .before .before .before .args .offset) (c .before .before .before .before .before .args .k) _ (c .before .before .before .condition .ensures ∙ ap (λ (s : Status). conditionOf (c .before .before .before .before .before .args .cond) (flagsIn s)) (c .before .before .before .before .status-in .ensures)) (c .before .before .if1 .taken) (c .before .branch-target .result) (c .before .branch-target .ensures))))
-    (λ c. passed (c .before .before .before .before .args .cond) (c .before .before .before .before .args .offset) (c .before .before .before .before .args .k) _ (c .before .before .condition .ensures ∙ ap (λ (s : Status). conditionOf (c .before .before .before .before .args .cond) (flagsIn s)) (c .before .before .before .status-in .ensures)) (c .before .if1 .left) (c .advance .result) (c .advance .ensures ∙ ap (λ (s : Status). control (wrap (c .before .before .before .before .args .k .pc + 2)) s) (c .before .before .before .status-in .ensures))))
+    returns
+    returns-2)

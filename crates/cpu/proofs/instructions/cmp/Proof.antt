@@ -5,8 +5,14 @@ use borrow.Author.Needs.{needs}
 use Rattle.cpu.proofs.instructions.cmp.Statement.{statement}
 use Rattle.cpu.proofs.instructions.cmp.Tie as tie
 
-pub cmp-spec : {M : Type 1} → statement M
+returns : tie.Need-returns
 unfolding cmpOf
+returns c =
+    let m = c .before .before .before .before in
+    simp (low-is (m .args .regs .now) (m .args .k .pc) (m .pre .0) (m .args .rd) (search needs), low-is (m .args .regs .now) (m .args .k .pc) (m .pre .0) (m .args .rs) (search needs))
+    (advance-holds (m .args .regs .now) (m .args .k .pc) (m .pre .0) (c .advance .result) (c .before .compare .result) _ (c .advance .ensures) (c .before .compare .ensures))
+
+pub cmp-spec : {M : Type 1} → statement M
 cmp-spec =
     tie.close
     (tie.spec
@@ -16,4 +22,4 @@ cmp-spec =
     (λ c. search needs)
     (λ c κs. search needs)
     (λ c κs. search needs)
-    (λ c. simp (low-is (c .before .before .before .before .args .regs .now) (c .before .before .before .before .args .k .pc) (c .before .before .before .before .pre .0) (c .before .before .before .before .args .rd) (search needs), low-is (c .before .before .before .before .args .regs .now) (c .before .before .before .before .args .k .pc) (c .before .before .before .before .pre .0) (c .before .before .before .before .args .rs) (search needs)) (advance-holds (c .before .before .before .before .args .regs .now) (c .before .before .before .before .args .k .pc) (c .before .before .before .before .pre .0) (c .advance .result) (c .before .compare .result) _ (c .advance .ensures) (c .before .compare .ensures))))
+    returns)

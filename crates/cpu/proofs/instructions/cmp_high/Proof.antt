@@ -6,8 +6,14 @@ use borrow.Author.Needs.{needs}
 use Rattle.cpu.proofs.instructions.cmp_high.Statement.{statement}
 use Rattle.cpu.proofs.instructions.cmp_high.Tie as tie
 
-pub cmp-high-spec : {M : Type 1} → statement M
+returns : tie.Need-returns
 unfolding cmpHighOf
+returns c =
+    let m = c .before .before .before .before in
+    simp (set-again (m .args .regs .now) (m .args .k .pc)) at
+    (advance-holds (set (m .args .regs .now) 15 (m .args .k .pc)) (m .args .k .pc) (set-whole (m .args .regs .now) (m .args .k .pc) (m .pre .0)) (c .advance .result) (c .before .compare .result) _ (c .advance .ensures) (c .before .compare .ensures))
+
+pub cmp-high-spec : {M : Type 1} → statement M
 cmp-high-spec =
     tie.close
     (tie.spec
@@ -18,4 +24,4 @@ cmp-high-spec =
     (λ c. search needs)
     (λ c κs. search needs)
     (λ c κs. search needs)
-    (λ c. simp (set-again (c .before .before .before .before .args .regs .now) (c .before .before .before .before .args .k .pc)) at (advance-holds (set (c .before .before .before .before .args .regs .now) 15 (c .before .before .before .before .args .k .pc)) (c .before .before .before .before .args .k .pc) (set-whole (c .before .before .before .before .args .regs .now) (c .before .before .before .before .args .k .pc) (c .before .before .before .before .pre .0)) (c .advance .result) (c .before .compare .result) _ (c .advance .ensures) (c .before .compare .ensures))))
+    returns)

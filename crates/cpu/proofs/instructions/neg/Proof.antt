@@ -5,8 +5,14 @@ use borrow.Author.Needs.{needs}
 use Rattle.cpu.proofs.instructions.neg.Statement.{statement}
 use Rattle.cpu.proofs.instructions.neg.Tie as tie
 
-pub neg-spec : {M : Type 1} → statement M
+returns : tie.Need-returns
 unfolding negOf
+returns c =
+    let m = c .before .before .before .before .before in
+    simp (low-is (m .args .regs .now) (m .args .k .pc) (m .pre .0) (m .args .rs) (search needs))
+    (simp (c .before .before .before .difference .ensures) at (flags-as _ _ _ (c .before .difference-status .result) _ (c .before .difference-status .ensures) (c .write-low .ensures)))
+
+pub neg-spec : {M : Type 1} → statement M
 neg-spec =
     tie.close
     (tie.spec
@@ -15,4 +21,4 @@ neg-spec =
     (λ c κs. search needs)
     (λ c κs. search needs)
     (λ c κs. search needs)
-    (λ c. simp (low-is (c .before .before .before .before .before .args .regs .now) (c .before .before .before .before .before .args .k .pc) (c .before .before .before .before .before .pre .0) (c .before .before .before .before .before .args .rs) (search needs)) (simp (c .before .before .before .difference .ensures) at (flags-as _ _ _ (c .before .difference-status .result) _ (c .before .difference-status .ensures) (c .write-low .ensures)))))
+    returns)

@@ -5,6 +5,11 @@ use borrow.Author.Needs.{needs}
 use Rattle.cpu.proofs.status.state.Statement.{statement}
 use Rattle.cpu.proofs.status.state.Tie as tie
 
+returns : tie.Need-returns
+returns c =
+    rw (c .before .before .before .is-negative .ensures, c .before .before .is-zero .ensures)
+    (let s = c .before .before .before .before .args .s in let f = flagsIn s in number-is (f .n) (f .z) (s .c) (s .v))
+
 pub state-spec : {M : Type 1} → statement M
 state-spec =
     tie.close
@@ -15,4 +20,4 @@ state-spec =
     (λ c. search needs)
     (λ c. search needs)
     (λ c. search needs)
-    (λ c. rw (c .before .before .before .is-negative .ensures, c .before .before .is-zero .ensures) (let s = c .before .before .before .before .args .s in let f = flagsIn s in number-is (f .n) (f .z) (s .c) (s .v))))
+    returns)

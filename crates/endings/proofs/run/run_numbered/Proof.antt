@@ -6,6 +6,12 @@ use Rattle.endings.specs.Endings.{numbered, numberedRun}
 use Rattle.endings.proofs.run.run_numbered.Statement.{statement}
 use Rattle.endings.proofs.run.run_numbered.Tie as tie
 
+returns : tie.Need-returns
+returns c =
+    ap
+    (λ (n : ℕ). numbered (c .before .before .before .before .before .run .result .machine) (c .before .before .before .before .before .run .last .1 .0) (n + c .before .before .before .before .before .run .result .count * 4294967296))
+    (c .before .run-number .ensures .0) ∙ ap numberedRun (c .before .before .before .before .before .run .ensures)
+
 pub run-numbered-spec : {M : Type 1} → statement M
 run-numbered-spec =
     tie.close
@@ -16,4 +22,4 @@ run-numbered-spec =
     (λ c. search needs)
     (λ c. search needs)
     (λ c. search needs)
-    (λ c. ap (λ (n : ℕ). numbered (c .before .before .before .before .before .run .result .machine) (c .before .before .before .before .before .run .last .1 .0) (n + c .before .before .before .before .before .run .result .count * 4294967296)) (c .before .run-number .ensures .0) ∙ ap numberedRun (c .before .before .before .before .before .run .ensures)))
+    returns)

@@ -6,6 +6,12 @@ use Rattle.endings.specs.Endings.{numbered, numberedStep}
 use Rattle.endings.proofs.step.step_numbered.Statement.{statement}
 use Rattle.endings.proofs.step.step_numbered.Tie as tie
 
+returns : tie.Need-returns
+returns c =
+    let step-value = c .before .before .before .before .step-value in
+    ap (λ (n : ℕ). numbered (step-value .result .machine) (step-value .last .1 .0) n) (c .outcome-number .ensures) ∙ ap numberedStep
+    (step-value .ensures)
+
 pub step-numbered-spec : {M : Type 1} → statement M
 step-numbered-spec =
     tie.close
@@ -13,4 +19,4 @@ step-numbered-spec =
     (λ c κs. search needs)
     (λ c κs. search needs)
     (λ c. search needs)
-    (λ c. ap (λ (n : ℕ). numbered (c .before .before .before .before .step-value .result .machine) (c .before .before .before .before .step-value .last .1 .0) n) (c .outcome-number .ensures) ∙ ap numberedStep (c .before .before .before .before .step-value .ensures)))
+    returns)

@@ -7,6 +7,14 @@ use borrow.Author.Needs.{needs}
 use Rattle.words.proofs.from_word.instruction_of.Statement.{statement}
 use Rattle.words.proofs.from_word.instruction_of.Tie as tie
 
+returns-20 : tie.Need-returns-20
+returns-20 c =
+    let m = c .match .rest in
+    let p : 19 ≤ c .before .args .w / 0x1000000 =
+    (skip 18 (skip 17 (skip 16 (skip 15 (skip 14 (skip 13 (skip 12 (skip 11 (skip 10 (skip 9 (skip 8 (skip 7 (skip 6 (skip 5 (skip 4 (skip 3 (skip 2 (skip 1 (skip 0 zero-le (m .0 .0 .0 .0 .0 .0 .0 .0 .0 .0 .0 .0 .0 .0 .0 .0 .0 .0 .1)) (m .0 .0 .0 .0 .0 .0 .0 .0 .0 .0 .0 .0 .0 .0 .0 .0 .0 .1)) (m .0 .0 .0 .0 .0 .0 .0 .0 .0 .0 .0 .0 .0 .0 .0 .0 .1)) (m .0 .0 .0 .0 .0 .0 .0 .0 .0 .0 .0 .0 .0 .0 .0 .1)) (m .0 .0 .0 .0 .0 .0 .0 .0 .0 .0 .0 .0 .0 .0 .1)) (m .0 .0 .0 .0 .0 .0 .0 .0 .0 .0 .0 .0 .0 .1)) (m .0 .0 .0 .0 .0 .0 .0 .0 .0 .0 .0 .0 .1)) (m .0 .0 .0 .0 .0 .0 .0 .0 .0 .0 .0 .1)) (m .0 .0 .0 .0 .0 .0 .0 .0 .0 .0 .1)) (m .0 .0 .0 .0 .0 .0 .0 .0 .0 .1)) (m .0 .0 .0 .0 .0 .0 .0 .0 .1)) (m .0 .0 .0 .0 .0 .0 .0 .1)) (m .0 .0 .0 .0 .0 .0 .1)) (m .0 .0 .0 .0 .0 .1)) (m .0 .0 .0 .0 .1)) (m .0 .0 .0 .1)) (m .0 .0 .1)) (m .0 .1)) (m .1))
+    in
+    simp entry-past
+
 pub instruction-of-spec : {M : Type 1} → statement M
 instruction-of-spec =
     tie.close
@@ -33,4 +41,4 @@ instruction-of-spec =
     (λ c. let e : c .before .args .w / 0x1000000 ≡ 16 = omega arith in simp e)
     (λ c. let e : c .before .args .w / 0x1000000 ≡ 17 = omega arith in simp e)
     (λ c. let e : c .before .args .w / 0x1000000 ≡ 18 = omega arith in simp e)
-    (λ c. let m = c .match .rest in let p : 19 ≤ c .before .args .w / 0x1000000 = (skip 18 (skip 17 (skip 16 (skip 15 (skip 14 (skip 13 (skip 12 (skip 11 (skip 10 (skip 9 (skip 8 (skip 7 (skip 6 (skip 5 (skip 4 (skip 3 (skip 2 (skip 1 (skip 0 zero-le (m .0 .0 .0 .0 .0 .0 .0 .0 .0 .0 .0 .0 .0 .0 .0 .0 .0 .0 .1)) (m .0 .0 .0 .0 .0 .0 .0 .0 .0 .0 .0 .0 .0 .0 .0 .0 .0 .1)) (m .0 .0 .0 .0 .0 .0 .0 .0 .0 .0 .0 .0 .0 .0 .0 .0 .1)) (m .0 .0 .0 .0 .0 .0 .0 .0 .0 .0 .0 .0 .0 .0 .0 .1)) (m .0 .0 .0 .0 .0 .0 .0 .0 .0 .0 .0 .0 .0 .0 .1)) (m .0 .0 .0 .0 .0 .0 .0 .0 .0 .0 .0 .0 .0 .1)) (m .0 .0 .0 .0 .0 .0 .0 .0 .0 .0 .0 .0 .1)) (m .0 .0 .0 .0 .0 .0 .0 .0 .0 .0 .0 .1)) (m .0 .0 .0 .0 .0 .0 .0 .0 .0 .0 .1)) (m .0 .0 .0 .0 .0 .0 .0 .0 .0 .1)) (m .0 .0 .0 .0 .0 .0 .0 .0 .1)) (m .0 .0 .0 .0 .0 .0 .0 .1)) (m .0 .0 .0 .0 .0 .0 .1)) (m .0 .0 .0 .0 .0 .1)) (m .0 .0 .0 .0 .1)) (m .0 .0 .0 .1)) (m .0 .0 .1)) (m .0 .1)) (m .1)) in simp entry-past))
+    returns-20)
