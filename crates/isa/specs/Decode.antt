@@ -25,8 +25,10 @@ haltOf h = only (eqb h 0) (Defined Halt)
 -- 001 op:2 Rd:3 imm:8
 abbrev pub immTable : ℕ → List Decoded
 immTable h =
-    Defined (MovImm (field h 8 3) (field h 0 8))
-    ∷ Defined (CmpImm (field h 8 3) (field h 0 8))
+    let rd = field h 8 3 in
+    let imm = field h 0 8 in
+    Defined (MovImm rd imm)
+    ∷ Defined (CmpImm rd imm)
     ∷ []
 
 abbrev pub immOf : ℕ → Decoded
@@ -35,12 +37,14 @@ immOf h = entry (immTable h) (field h 11 2)
 -- 010000 op:4 Rs:3 Rd:3
 abbrev pub aluTable : ℕ → List Decoded
 aluTable h =
-    Defined (And (field h 3 3) (field h 0 3))
-    ∷ Defined (Eor (field h 3 3) (field h 0 3))
-    ∷ Defined (Asr (field h 3 3) (field h 0 3))
-    ∷ Defined (Tst (field h 3 3) (field h 0 3))
-    ∷ Defined (Neg (field h 3 3) (field h 0 3))
-    ∷ Defined (Cmp (field h 3 3) (field h 0 3))
+    let rs = field h 3 3 in
+    let rd = field h 0 3 in
+    Defined (And rs rd)
+    ∷ Defined (Eor rs rd)
+    ∷ Defined (Asr rs rd)
+    ∷ Defined (Tst rs rd)
+    ∷ Defined (Neg rs rd)
+    ∷ Defined (Cmp rs rd)
     ∷ []
 
 abbrev pub aluOf : ℕ → Decoded
@@ -50,9 +54,11 @@ aluOf h = entry (aluTable h) (field h 6 4)
 -- format of its own, and none here
 abbrev pub highTable : ℕ → List Decoded
 highTable h =
-    Defined (AddHigh (highRs h) (highRd h))
-    ∷ only (ltb 0 (field h 6 2)) (Defined (CmpHigh (highRs h) (highRd h)))
-    ∷ Defined (MovHigh (highRs h) (highRd h))
+    let rs = highRs h in
+    let rd = highRd h in
+    Defined (AddHigh rs rd)
+    ∷ only (ltb 0 (field h 6 2)) (Defined (CmpHigh rs rd))
+    ∷ Defined (MovHigh rs rd)
     ∷ []
 
 abbrev pub highOf : ℕ → Decoded
@@ -68,10 +74,13 @@ registersOf h = entry (registersTable h) (field h 10 3)
 -- 011 B:1 L:1 offset:5 Rb:3 Rd:3
 abbrev pub memoryTable : ℕ → List Decoded
 memoryTable h =
-    Defined (Str (field h 6 5) (field h 3 3) (field h 0 3))
-    ∷ Defined (Ldr (field h 6 5) (field h 3 3) (field h 0 3))
-    ∷ Defined (Strb (field h 6 5) (field h 3 3) (field h 0 3))
-    ∷ Defined (Ldrb (field h 6 5) (field h 3 3) (field h 0 3))
+    let offset = field h 6 5 in
+    let rb = field h 3 3 in
+    let rd = field h 0 3 in
+    Defined (Str offset rb rd)
+    ∷ Defined (Ldr offset rb rd)
+    ∷ Defined (Strb offset rb rd)
+    ∷ Defined (Ldrb offset rb rd)
     ∷ []
 
 abbrev pub memoryOf : ℕ → Decoded
