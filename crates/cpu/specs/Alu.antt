@@ -59,7 +59,7 @@ shiftCarry a k c = cond (eqb k 0) c (cond (ltb k 16) (eqb (field a (k - 1) 1) 1)
 
 -- V stays
 abbrev pub shiftFlags : ℕ → ℕ → Flags → Flags
-shiftFlags a k f = record { n = negative (shiftOf a k); z = eqb (shiftOf a k) 0; c = shiftCarry a k (f .c); v = f .v }
+shiftFlags a k f = let r = shiftOf a k in record { n = negative r; z = eqb r 0; c = shiftCarry a k (f .c); v = f .v }
 
 -- the conditions of a branch by number: eq, ne, cs, cc, mi, pl, vs, vc, hi, ls, ge, lt, gt, le
 abbrev pub conditions : Flags → List Bool

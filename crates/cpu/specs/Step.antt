@@ -45,7 +45,10 @@ resulting rd r m = machine (written (m .regs) rd r) (resultFlags r (flags m))
 
 -- ADD(1): the sum of two registers, with all four flags
 unfoldable pub addHighOf : ℕ → ℕ → Machine → Machine
-addHighOf rs rd m = machine (written (m .regs) rd (sumOf (reg m rd) (reg m rs))) (sumFlags (reg m rd) (reg m rs))
+addHighOf rs rd m =
+    let a = reg m rd in
+    let b = reg m rs in
+    machine (written (m .regs) rd (sumOf a b)) (sumFlags a b)
 
 -- ADD(2): the PC with its two low bits cleared, plus 4 times the immediate; no flag
 unfoldable pub addPcOf : ℕ → ℕ → Machine → Machine
@@ -58,7 +61,9 @@ andOf rs rd m = resulting rd (bitAnd (reg m rd) (reg m rs)) m
 -- ASR: by bits 7 to 0 of Rs, as Rs is before Rd changes
 unfoldable pub asrOf : ℕ → ℕ → Machine → Machine
 asrOf rs rd m =
-    machine (written (m .regs) rd (shiftOf (reg m rd) (reg m rs % 256))) (shiftFlags (reg m rd) (reg m rs % 256) (flags m))
+    let a = reg m rd in
+    let k = reg m rs % 256 in
+    machine (written (m .regs) rd (shiftOf a k)) (shiftFlags a k (flags m))
 
 -- B: to its target where the condition holds, else on to the next instruction; no flag
 unfoldable pub branchOf : ℕ → ℕ → Machine → Machine
@@ -98,9 +103,8 @@ aligned a = eqb (a % 4) 0
 -- LDR, its distance 4 times the field; no flag
 unfoldable pub ldrOf : ℕ → ℕ → ℕ → Machine → List ℕ → StepResult
 ldrOf offset rb rd m memory =
-    cond (aligned (effectiveAddress m rb (4 * offset)))
-    (completed (machine (written (m .regs) rd (halfwordAt memory (effectiveAddress m rb (4 * offset)))) (flags m)) memory)
-    (stopped 20 m memory)
+    let a = effectiveAddress m rb (4 * offset) in
+    cond (aligned a) (completed (machine (written (m .regs) rd (halfwordAt memory a)) (flags m)) memory) (stopped 20 m memory)
 
 -- LDRB: one byte, the upper half of Rd 0; no flag
 unfoldable pub ldrbOf : ℕ → ℕ → ℕ → Machine → List ℕ → Machine
@@ -122,9 +126,8 @@ negOf rs rd m = machine (written (m .regs) rd (differenceOf 0 (reg m rs))) (diff
 -- STR, as LDR; no flag
 unfoldable pub strOf : ℕ → ℕ → ℕ → Machine → List ℕ → StepResult
 strOf offset rb rd m memory =
-    cond (aligned (effectiveAddress m rb (4 * offset)))
-    (completed (machine (advanced (m .regs)) (flags m)) (withHalfword memory (effectiveAddress m rb (4 * offset)) (reg m rd)))
-    (stopped 20 m memory)
+    let a = effectiveAddress m rb (4 * offset) in
+    cond (aligned a) (completed (machine (advanced (m .regs)) (flags m)) (withHalfword memory a (reg m rd))) (stopped 20 m memory)
 
 -- STRB: the low byte of Rd; no flag
 unfoldable pub strbOf : ℕ → ℕ → ℕ → Machine → List ℕ → StepResult

@@ -60,7 +60,7 @@ unusedZero block used (suc n) = unusedZero block used n && eqb (codeHalfword blo
 
 -- 6: a block, the last or not, uses as much of its code as it should, and what it doesn't use is 0
 unfoldable pub check6 : Bool → List ℕ → Bool
-check6 isLast block = usedRight isLast (usedOf block) && unusedZero block (usedOf block) (blockCode - usedOf block)
+check6 isLast block = let used = usedOf block in usedRight isLast used && unusedZero block used (blockCode - used)
 
 -- 7: its window is that of block 0
 unfoldable pub check7 : List ℕ → List ℕ → Bool
