@@ -28,7 +28,7 @@ use board::halfword_at;
 use board::put_halfword;
 ghost use mathlib.Core.Path.{_≡_};
 ghost use Prim.Native.Nat.{_+_, _*_, _/_, _<_};
-ghost use lib.ListN.{length};
+ghost use lib.ListN.{getD, length};
 ghost use Rattle.board.specs.Address.{wrap, memoryBytes};
 ghost use Rattle.board.specs.Field.{field};
 ghost use Rattle.cpu.specs.Step.{resulting, addHighOf, addPcOf, andOf, asrOf, cmpImmOf, cmpOf, cmpHighOf, eorOf, ldrOf, ldrbOf, movImmOf, movHighOf, negOf, strOf, strbOf, tstOf};
@@ -143,9 +143,11 @@ pub(crate) fn eor(regs: &mut [u16; 16], k: Control, rs: u8, rd: u8) -> Control
 }
 
 // Where a load or a store goes: a distance past its base register.
-fn effective_address(base: u16, distance: u16) -> u16
-    ensures { λ r. ⌜ r ≡ wrap (base + distance) ⌝ }
+fn effective_address(regs: &[u16; 16], h: u16, distance: u16) -> u16
+    requires { ⌜ Whole (now regs) ⌝ }
+    ensures { λ a. ⌜ a ≡ wrap (getD (now (regs .entry)) (field h 3 3) 0 + distance) ⌝ }
 {
+    let base = regs[bits(h, 3, 3) as usize];
     std::num::wrapping_add_u16(base, distance)
 }
 
@@ -154,7 +156,7 @@ pub(crate) fn ldr(regs: &mut [u16; 16], k: Control, memory: &[u8], h: u16) -> Ex
     requires { ⌜ Whole (now regs) × (length (now memory) ≡ memoryBytes) ⌝ }
     ensures { λ r. ⌜ Leads (now (regs .exit)) r (now (memory .entry)) (ldrOf (field h 6 5) (field h 3 3) (field h 0 3) (held (now (regs .entry)) k) (now (memory .entry))) ⌝ }
 {
-    let a = effective_address(regs[bits(h, 3, 3) as usize], 4 * (bits(h, 6, 5) as u16));
+    let a = effective_address(regs, h, 4 * (bits(h, 6, 5) as u16));
     if a % 4 != 0 {
         return stopped(k, MISALIGNED);
     }
@@ -167,7 +169,7 @@ pub(crate) fn ldrb(regs: &mut [u16; 16], k: Control, memory: &[u8], h: u16) -> C
     requires { ⌜ Whole (now regs) × (length (now memory) ≡ memoryBytes) ⌝ }
     ensures { λ r. ⌜ Holds (now (regs .exit)) r (ldrbOf (field h 6 5) (field h 3 3) (field h 0 3) (held (now (regs .entry)) k) (now (memory .entry))) ⌝ }
 {
-    let a = effective_address(regs[bits(h, 3, 3) as usize], bits(h, 6, 5) as u16);
+    let a = effective_address(regs, h, bits(h, 6, 5) as u16);
     let x = load_byte(memory, a as usize);
     write_low(regs, k.pc, bits(h, 0, 3), x, status_in(k))
 }
@@ -205,7 +207,7 @@ pub(crate) fn str(regs: &[u16; 16], k: Control, memory: &mut [u8], h: u16) -> Ex
     requires { ⌜ Whole (now regs) × (length (now memory) ≡ memoryBytes) ⌝ }
     ensures { λ r. ⌜ Leads (now (regs .entry)) r (now (memory .exit)) (strOf (field h 6 5) (field h 3 3) (field h 0 3) (held (now (regs .entry)) k) (now (memory .entry))) ⌝ }
 {
-    let a = effective_address(regs[bits(h, 3, 3) as usize], 4 * (bits(h, 6, 5) as u16));
+    let a = effective_address(regs, h, 4 * (bits(h, 6, 5) as u16));
     if a % 4 != 0 {
         return stopped(k, MISALIGNED);
     }
@@ -219,7 +221,7 @@ pub(crate) fn strb(regs: &[u16; 16], k: Control, memory: &mut [u8], h: u16) -> E
     requires { ⌜ Whole (now regs) × (length (now memory) ≡ memoryBytes) ⌝ }
     ensures { λ r. ⌜ Leads (now (regs .entry)) r (now (memory .exit)) (strbOf (field h 6 5) (field h 3 3) (field h 0 3) (held (now (regs .entry)) k) (now (memory .entry))) ⌝ }
 {
-    let a = effective_address(regs[bits(h, 3, 3) as usize], bits(h, 6, 5) as u16);
+    let a = effective_address(regs, h, bits(h, 6, 5) as u16);
     let x = regs[bits(h, 0, 3) as usize];
     store_byte(memory, a as usize, x);
     completed(advance(k.pc, status_in(k)))

@@ -8,21 +8,19 @@ use Rattle.cpu.proofs.instructions.ldr.Tie as tie
 
 returns : tie.Need-returns
 returns c =
-    let m = c .before .before .before .before .before .before .before in
-    let rb = c .before .before .before .before .before .bits in
-    let offset = c .before .before .before .bits2 in
-    simp (rb .ensures, offset .ensures) at
-    (ldr-stops (m .args .regs .now) (m .args .memory .now) (m .args .k) (offset .result) (rb .result) (field (m .args .h) 0 3) _ (c .stopped .result) (m .pre .0) (omega (arith, rb .ensures))
+    let m = c .before .before .before .before .before .before in
+    let offset = c .before .before .before .bits in
+    simp (offset .ensures) at
+    (ldr-stops (m .args .regs .now) (m .args .memory .now) (m .args .k) (offset .result) (field (m .args .h) 3 3) (field (m .args .h) 0 3) _ (c .stopped .result) (m .pre .0) (omega arith)
     (c .before .before .effective-address .ensures) (c .before .if1 .taken) (c .stopped .ensures))
 
 returns-2 : tie.Need-returns-2
 returns-2 c =
-    let m = c .before .before .before .before .before .before .before .before .before .before .before .before in
-    let rb = c .before .before .before .before .before .before .before .before .before .before .bits in
-    let offset = c .before .before .before .before .before .before .before .before .bits2 in
-    let rd = c .before .before .before .bits3 in
-    simp (rb .ensures, offset .ensures, rd .ensures) at
-    (ldr-completes (m .args .regs .now) (m .args .memory .now) (m .args .k) (offset .result) (rb .result) (rd .result) _ (c .completed .result) (m .pre .0) (omega (arith, rb .ensures))
+    let m = c .before .before .before .before .before .before .before .before .before .before .before in
+    let offset = c .before .before .before .before .before .before .before .before .bits in
+    let rd = c .before .before .before .bits2 in
+    simp (offset .ensures, rd .ensures) at
+    (ldr-completes (m .args .regs .now) (m .args .memory .now) (m .args .k) (offset .result) (field (m .args .h) 3 3) (rd .result) _ (c .completed .result) (m .pre .0) (omega arith)
     (c .before .before .before .before .before .before .before .effective-address .ensures) (c .before .before .before .before .before .before .if1 .left) _ (c .before .write-low .result) _ (c .completed .ensures)
     (c .before .before .before .before .before .halfword-at .ensures) (simp (c .before .before .status-in .ensures) at (c .before .write-low .ensures)))
 
@@ -30,10 +28,6 @@ pub ldr-spec : {M : Type 1} → statement M
 ldr-spec =
     tie.close
     (tie.spec
-    (λ c κs. search needs)
-    (λ c. search needs)
-    (λ c. search needs)
-    (λ c. search needs)
     (λ c κs. search needs)
     (λ c. search needs)
     (λ c. search needs)

@@ -1,6 +1,7 @@
 -- The address takes the low byte.
 use mathlib.Core.Path.{_∙_}
 use native.Mathlib.Omega.{arith}
+use Rattle.board.specs.Field.{field}
 use Rattle.cpu.proofs.Access.{strb-completes}
 use borrow.Author.Needs.{needs}
 use Rattle.cpu.proofs.instructions.strb.Statement.{statement}
@@ -8,12 +9,11 @@ use Rattle.cpu.proofs.instructions.strb.Tie as tie
 
 returns : tie.Need-returns
 returns c =
-    let m = c .before .before .before .before .before .before .before .before .before .before .before .before .before .before in
-    let rb = c .before .before .before .before .before .before .before .before .before .before .before .before .bits in
-    let offset = c .before .before .before .before .before .before .before .before .before .before .bits2 in
-    let rd = c .before .before .before .before .before .before .before .before .bits3 in
-    simp (rb .ensures, offset .ensures, rd .ensures) at
-    (strb-completes (m .args .regs .now) (m .args .memory .now) (m .args .k) (offset .result) (rb .result) (rd .result) _ (c .completed .result) (m .pre .0) (omega (arith, rb .ensures))
+    let m = c .before .before .before .before .before .before .before .before .before .before .before .before in
+    let offset = c .before .before .before .before .before .before .before .before .before .before .bits in
+    let rd = c .before .before .before .before .before .before .before .before .bits2 in
+    simp (offset .ensures, rd .ensures) at
+    (strb-completes (m .args .regs .now) (m .args .memory .now) (m .args .k) (offset .result) (field (m .args .h) 3 3) (rd .result) _ (c .completed .result) (m .pre .0) (omega arith)
     (c .before .before .before .before .before .before .before .before .before .effective-address .ensures) (omega (arith, rd .ensures)) _
     (c .completed .ensures .0 ∙ (c .before .advance .ensures ∙ rw (c .before .before .status-in .ensures)), c .completed .ensures .1) (c .before .before .before .before .before .store-byte .ensures))
 
@@ -21,10 +21,6 @@ pub strb-spec : {M : Type 1} → statement M
 strb-spec =
     tie.close
     (tie.spec
-    (λ c κs. search needs)
-    (λ c. search needs)
-    (λ c. search needs)
-    (λ c. search needs)
     (λ c κs. search needs)
     (λ c. search needs)
     (λ c κs. search needs)
