@@ -1,4 +1,4 @@
--- Instruction numbers and byte addresses ("Image blocks"), and where a branch goes ("One step").
+-- Instruction numbers and byte addresses ("Image blocks"), where a branch goes, and what ADD Rd, PC gives ("One step").
 use mathlib.Core.Bool.{cond}
 use Prim.Native.Nat.{ℕ, _+_, _*_, _/_, _%_}
 use lib.Dec.{ltb}
@@ -28,3 +28,7 @@ branchDistance offset = cond (ltb offset 128) (2 * offset) (2 * offset + 65024)
 -- a taken branch goes that far from its own address
 abbrev pub branchTargetOf : ByteAddress → ℕ → ByteAddress
 branchTargetOf a offset = record { 0 = wrap (a .0 + branchDistance offset) }
+
+-- ADD Rd, PC gives the address with its two low bits cleared, plus four times the immediate
+abbrev pub pcSum : ℕ → ℕ → ℕ
+pcSum address imm = wrap (address / 4 * 4 + 4 * imm)

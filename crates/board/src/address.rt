@@ -1,7 +1,7 @@
 // Code is counted in instructions and in bytes. The two counts are types of
 // their own, so that neither is taken for the other.
 ghost use mathlib.Core.Path.{_≡_};
-ghost use Rattle.board.specs.Address.{byteAddressOf, instructionIndexOf, branchTargetOf};
+ghost use Rattle.board.specs.Address.{byteAddressOf, instructionIndexOf, branchTargetOf, pcSum};
 
 // The number of an instruction in its code, from 0.
 pub struct InstructionIndex(pub u16);
@@ -40,4 +40,13 @@ pub fn branch_target(a: ByteAddress, offset: u8) -> ByteAddress
     let forward = (offset as u16) * 2;
     let back = ((offset / 128) as u16) * 65024;
     ByteAddress(std::num::wrapping_add_u16(address, forward + back))
+}
+
+// What ADD Rd, PC at an address gives: the address with its two low bits
+// cleared, plus four times an immediate. Wraps.
+pub fn pc_sum(a: ByteAddress, imm: u8) -> u16
+    ensures { λ r. ⌜ r ≡ pcSum (a .0) imm ⌝ }
+{
+    let aligned = a.0 / 4 * 4;
+    std::num::wrapping_add_u16(aligned, 4 * (imm as u16))
 }

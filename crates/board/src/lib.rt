@@ -11,6 +11,7 @@ pub use address::MEMORY_BYTES;
 pub use address::branch_target;
 pub use address::byte_address;
 pub use address::instruction_index;
+pub use address::pc_sum;
 pub use bytes::halfword_at;
 pub use bytes::put_halfword;
 pub use fields::bits;

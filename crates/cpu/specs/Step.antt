@@ -1,11 +1,11 @@
 -- One step: what each instruction does, under its page's name and in the manual's order, and then a step as a whole.
 use mathlib.Core.Bool.{Bool, cond}
 use mathlib.Core.List.{List}
-use Prim.Native.Nat.{ℕ, _+_, _*_, _/_, _%_}
+use Prim.Native.Nat.{ℕ, _+_, _*_, _%_}
 use lib.Bits.{bitAnd, bitXor}
 use lib.Dec.{eqb}
 use lib.ListN.{length, set}
-use Rattle.board.specs.Address.{wrap, branchTargetOf, memoryBytes}
+use Rattle.board.specs.Address.{wrap, branchTargetOf, pcSum, memoryBytes}
 use Rattle.board.specs.Refusal.{refusal}
 use Rattle.board.specs.Bytes.{byteAt, halfwordAt, withByte, withHalfword}
 use Rattle.isa.specs.Decode.{decodeOf}
@@ -52,7 +52,7 @@ addHighOf rs rd m =
 
 -- ADD(2): the PC with its two low bits cleared, plus 4 times the immediate; no flag
 unfoldable pub addPcOf : ℕ → ℕ → Machine → Machine
-addPcOf rd imm m = machine (written (m .regs) rd (wrap (pc m / 4 * 4 + 4 * imm))) (flags m)
+addPcOf rd imm m = machine (written (m .regs) rd (pcSum (pc m) imm)) (flags m)
 
 -- AND
 unfoldable pub andOf : ℕ → ℕ → Machine → Machine

@@ -54,19 +54,12 @@ pub(crate) fn add_high(regs: &mut [u16; 16], k: Control, rs: u8, rd: u8) -> Cont
     write(regs, k.pc, rd, r, sum_status(a, b, r))
 }
 
-// The PC with its two low bits cleared, plus 4 times an immediate.
-fn pc_relative(pc: u16, imm: u8) -> u16
-    ensures { λ r. ⌜ r ≡ wrap (pc / 4 * 4 + 4 * imm) ⌝ }
-{
-    std::num::wrapping_add_u16(pc / 4 * 4, 4 * (imm as u16))
-}
-
 // ADD(2).
 pub(crate) fn add_pc(regs: &mut [u16; 16], k: Control, h: u16) -> Control
     requires { ⌜ Whole (now regs) ⌝ }
     ensures { λ r. ⌜ Holds (now (regs .exit)) r (addPcOf (field h 8 3) (field h 0 8) (held (now (regs .entry)) k)) ⌝ }
 {
-    let r = pc_relative(k.pc, bits(h, 0, 8));
+    let r = board::pc_sum(ByteAddress(k.pc), bits(h, 0, 8));
     write_low(regs, k.pc, bits(h, 8, 3), r, status_in(k))
 }
 

@@ -10,7 +10,7 @@ use borrow.Author.Tests.{eq-eqb, eqb-false, not-true, lt-leb}
 use lib.Dec.{eqb, ltb}
 use lib.ListN.{length, set}
 use lib.Pow.{shr-le}
-use Rattle.board.specs.Address.{wrap, branchTargetOf}
+use Rattle.board.specs.Address.{wrap, branchTargetOf, pcSum}
 use Rattle.board.specs.declared.address.ByteAddress.{ByteAddress}
 use Rattle.board.specs.Bytes.{byteAt, halfwordAt}
 use Rattle.isa.specs.declared.instruction.Instruction.{Instruction}
@@ -20,7 +20,7 @@ use Rattle.domain_laws.specs.Holds.{Holds}
 use Rattle.domain_laws.proofs.Sound.{unknown-sound, exactly-sound, byte-sound, holds-word, neg-sound, asr-sound, add-sound, and-sound, eor-sound}
 use Rattle.verifier.specs.Access.{accessOf, jumpOf}
 use Rattle.verifier.specs.Questions.{check12}
-use Rattle.verifier.specs.State.{State, value, transferOf, pcSum}
+use Rattle.verifier.specs.State.{State, value, transferOf}
 use Rattle.verifier.specs.declared.branch.Target.the-variants.{To}
 use Rattle.cpu.specs.declared.machine.Machine.{Machine}
 use Rattle.cpu.specs.Machine.{Flags}

@@ -1,8 +1,8 @@
 -- The abstract state ("Facts the judge carries"): an abstract value for each register, and what an instruction makes of them.
 use mathlib.Core.List.{List}
-use Prim.Native.Nat.{ℕ, _+_, _*_, _/_}
+use Prim.Native.Nat.{ℕ}
 use lib.ListN.{getD, set, replicate}
-use Rattle.board.specs.Address.{wrap}
+use Rattle.board.specs.Address.{pcSum}
 use Rattle.isa.specs.declared.decoder.Decoded.{Decoded}
 use Rattle.isa.specs.declared.decoder.Decoded.the-variants.{Defined, Undefined}
 use Rattle.isa.specs.declared.instruction.Instruction.{Instruction}
@@ -32,10 +32,6 @@ standingAt address s = set s pcRegister (exactlyOf address)
 -- the value of a register
 abbrev pub value : State → ℕ → Value
 value s r = getD s r unknownOf
-
--- ADD Rd, PC: the address with its two low bits cleared, plus four times the immediate
-abbrev pub pcSum : ℕ → ℕ → ℕ
-pcSum address imm = wrap (address / 4 * 4 + 4 * imm)
 
 -- the state after an instruction, from that before it: comparisons, stores, branches and HALT change no register's value
 abbrev pub transferOf : ℕ → Instruction → State → State

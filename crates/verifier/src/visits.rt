@@ -14,11 +14,12 @@ use image::Layout;
 ghost use mathlib.Core.Path.{_≡_};
 ghost use Prim.Native.Nat.{ℕ};
 ghost use lib.ListN.{length, set};
+ghost use Rattle.board.specs.Address.{pcSum};
 ghost use Rattle.board.specs.Field.{field};
 ghost use Rattle.isa.specs.Decode.{haltOf, aluOf, highOf, registersOf, branchOf, decodeOf};
 ghost use Rattle.domain.specs.Value.{exactlyOf};
 ghost use Rattle.image.specs.Check.{firstNo};
-ghost use Rattle.verifier.specs.State.{State, registerCount, pcSum, afterOf};
+ghost use Rattle.verifier.specs.State.{State, registerCount, afterOf};
 ghost use Rattle.verifier.specs.Words.{stateOf};
 ghost use Rattle.verifier.specs.Numbers.{numberOf};
 ghost use Rattle.verifier.specs.Questions.{halfwordChecks, answerAt};
@@ -120,9 +121,7 @@ fn load(state: &mut [u64; 16], h: u16, v: Value)
 fn add_pc(state: &mut [u64; 16], a: ByteAddress, h: u16)
     ensures { λ _. ⌜ stateOf (now (state .exit)) ≡ set (stateOf (now (state .entry))) (field h 8 3) (exactlyOf (pcSum (a .0) (field h 0 8))) ⌝ }
 {
-    let aligned = a.0 / 4 * 4;
-    let distance = 4 * (board::bits(h, 0, 8) as u16);
-    let sum = std::num::wrapping_add_u16(aligned, distance);
+    let sum = board::pc_sum(a, board::bits(h, 0, 8));
     set_value(state, board::bits(h, 8, 3), domain::exactly(sum));
 }
 
@@ -151,6 +150,7 @@ fn visit(state: &mut [u64; 16], layout: Layout, a: ByteAddress, h: u16) -> u8
             move_imm(state, h);
             0
         }
+        // CMP of an immediate leaves every value as it is
         5 => 0,
         8 => visit_registers(state, h),
         12 => check_halfword(state, layout, h),

@@ -10,7 +10,7 @@ unfolding addPcOf
 returns c =
     let m = c .before .before .before .before .before .before in
     let p = pc-is (m .args .regs .now) (m .args .k .pc) (m .pre) in
-    simp p (simp (c .before .status-in .ensures, c .before .before .bits2 .ensures, c .before .before .before .before .pc-relative .ensures, c .before .before .before .before .before .bits .ensures, p) at (c .write-low .ensures))
+    simp p (simp (c .before .status-in .ensures, c .before .before .bits2 .ensures, c .before .before .before .before .pc-sum .ensures, c .before .before .before .before .before .bits .ensures, p) at (c .write-low .ensures))
 
 pub add-pc-spec : {M : Type 1} → statement M
 add-pc-spec =
