@@ -31,8 +31,8 @@ pub fn instruction_index(a: ByteAddress) -> InstructionIndex
 }
 
 // Where a taken branch at an address goes: `offset` is the signed byte of its
-// halfword, counted in instructions from the branch itself. Wraps. With no test
-// in it, as a run is faster.
+// halfword, counted in instructions from the branch itself. Wraps. A test of the
+// sign would make runs slower.
 pub fn branch_target(a: ByteAddress, offset: u8) -> ByteAddress
     ensures { λ r. ⌜ r ≡ branchTargetOf a offset ⌝ }
 {

@@ -27,7 +27,7 @@ use board::bits;
 use board::halfword_at;
 use board::put_halfword;
 ghost use mathlib.Core.Path.{_≡_};
-ghost use Prim.Native.Nat.{_+_, _*_, _/_, _<_};
+ghost use Prim.Native.Nat.{_+_, _<_};
 ghost use lib.ListN.{getD, length};
 ghost use Rattle.board.specs.Address.{wrap, memoryBytes};
 ghost use Rattle.board.specs.Field.{field};

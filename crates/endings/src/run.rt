@@ -23,6 +23,8 @@ fn run_number(o: RunOutcome) -> u64
     }
 }
 
+// A run: its ending in the low 32 bits as a step's, 0 where the budget is spent,
+// and its count in the upper 32.
 pub fn run_numbered(m: Machine, memory: &mut [u8], budget: u32) -> AfterRun
     ensures { λ r. ⌜ numbered (r .machine) (now (memory .exit)) (r .number) ≡ numberedRun (runOf budget m (now (memory .entry))) ⌝ }
 {

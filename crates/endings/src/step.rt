@@ -22,6 +22,8 @@ fn outcome_number(o: Outcome) -> u32
     }
 }
 
+// One step: 0 where it completed, 255 at HALT, else the stop's or the refusal's
+// own number.
 pub fn step_numbered(m: Machine, memory: &mut [u8]) -> AfterStep
     ensures { λ r. ⌜ numbered (r .machine) (now (memory .exit)) (r .number) ≡ numberedStep (stepOf m (now (memory .entry))) ⌝ }
 {

@@ -1,6 +1,6 @@
-// What is done at an instruction: its checks, and the state behind it. Each
-// format has a function, which takes its halfword apart as `isa` does; an enum
-// of instructions between the two would go through memory.
+// What is done at an instruction: its checks, and the state behind it. A halfword
+// goes by its top five bits to what its format asks; an enum of instructions
+// between the two would go through memory.
 use super::checks::check_branch;
 use super::checks::check_byte;
 use super::checks::check_halfword;
