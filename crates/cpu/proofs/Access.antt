@@ -4,8 +4,8 @@ use mathlib.Core.List.{List}
 use mathlib.Core.Path.{_≡_, refl}
 use lib.ListN.{getD, set}
 use borrow.Author.Tests.{eq-eqb, ne-eqb}
-use Rattle.board.specs.Address.{wrap}
-use Rattle.board.specs.Bytes.{halfwordAt, withByte, withHalfword}
+use Rattle.units.specs.Address.{wrap}
+use Rattle.units.specs.Bytes.{halfwordAt, withByte, withHalfword}
 use Rattle.cpu.specs.declared.held.Control.{Control}
 use Rattle.cpu.specs.declared.held.Executed.{Executed}
 use Rattle.cpu.specs.declared.machine.Machine.{Machine}

@@ -5,7 +5,7 @@ use mathlib.Core.List.{List}
 use mathlib.Core.Path.{_≡_, sym, ap, _∙_}
 use lib.ListN.{getD, set, length-set}
 use lib.Seq.{getD-set-same, getD-set-other, set-set, set-comm}
-use Rattle.board.specs.Address.{wrap}
+use Rattle.units.specs.Address.{wrap}
 use Rattle.cpu.specs.declared.status.Status.{Status}
 use Rattle.cpu.specs.declared.held.Control.{Control}
 use Rattle.cpu.specs.Machine.{Flags, machine, advanced, written}

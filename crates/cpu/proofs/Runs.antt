@@ -8,9 +8,9 @@ use lib.ListN.{length}
 use borrow.Author.Tests.{eq-eqb, ne-eqb}
 use types.Run.{OneOf}
 use denote.Enum.Declared.{tagOf}
-use Rattle.board.specs.Address.{memoryBytes}
-use Rattle.board.specs.Refusal.{refusal}
-use Rattle.board.specs.declared.refusal.Refusal.{Refusal}
+use Rattle.units.specs.Address.{memoryBytes}
+use Rattle.refusals.specs.Refusal.{refusal}
+use Rattle.refusals.specs.declared.refusal.Refusal.{Refusal}
 use Rattle.cpu.specs.declared.held.Control.{Control}
 use Rattle.cpu.specs.declared.held.Executed.{Executed}
 use Rattle.cpu.specs.declared.machine.Machine.{Machine}

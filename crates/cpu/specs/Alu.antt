@@ -4,8 +4,8 @@ use mathlib.Core.List.{List, [], _∷_}
 use Prim.Native.Nat.{ℕ, _+_, _-_, _/_, _^_}
 use lib.Dec.{eqb, leb, ltb}
 use lib.ListN.{getD}
-use Rattle.board.specs.Address.{wrap}
-use Rattle.board.specs.Field.{field}
+use Rattle.units.specs.Address.{wrap}
+use Rattle.units.specs.Field.{field}
 use Rattle.cpu.specs.Machine.{Flags}
 
 -- bit 15

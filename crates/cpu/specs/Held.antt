@@ -6,7 +6,7 @@ use mathlib.Core.Path.{_≡_}
 use Prim.Native.Nat.{ℕ, _+_, _%_}
 use lib.Dec.{eqb}
 use lib.ListN.{getD, length, set}
-use Rattle.board.specs.Address.{wrap, branchTargetOf}
+use Rattle.units.specs.Address.{wrap, branchTargetOf}
 use Rattle.isa.specs.declared.decoder.Decoded.{Decoded}
 use Rattle.cpu.specs.declared.machine.Machine.{Machine}
 use Rattle.cpu.specs.declared.status.Status.{Status}

@@ -4,8 +4,8 @@ use mathlib.Core.List.{List}
 use Prim.Native.Nat.{ℕ, zero, suc, _+_}
 use lib.Dec.{eqb}
 use lib.ListN.{length}
-use Rattle.board.specs.Address.{memoryBytes}
-use Rattle.board.specs.Refusal.{refusal}
+use Rattle.units.specs.Address.{memoryBytes}
+use Rattle.refusals.specs.Refusal.{refusal}
 use Rattle.cpu.specs.declared.machine.Machine.{Machine}
 use Rattle.cpu.specs.declared.outcome.Outcome.{Outcome}
 use Rattle.cpu.specs.declared.outcome.Outcome.the-variants.{Completed, Halted, Stopped, Refused}

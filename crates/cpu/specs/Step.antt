@@ -5,9 +5,9 @@ use Prim.Native.Nat.{ℕ, _+_, _*_, _%_}
 use lib.Bits.{bitAnd, bitXor}
 use lib.Dec.{eqb}
 use lib.ListN.{length, set}
-use Rattle.board.specs.Address.{wrap, branchTargetOf, pcSum, memoryBytes}
-use Rattle.board.specs.Refusal.{refusal}
-use Rattle.board.specs.Bytes.{byteAt, halfwordAt, withByte, withHalfword}
+use Rattle.units.specs.Address.{wrap, branchTargetOf, pcSum, memoryBytes}
+use Rattle.refusals.specs.Refusal.{refusal}
+use Rattle.units.specs.Bytes.{byteAt, halfwordAt, withByte, withHalfword}
 use Rattle.isa.specs.Decode.{decodeOf}
 use Rattle.isa.specs.declared.decoder.Decoded.{Decoded}
 use Rattle.isa.specs.declared.decoder.Decoded.the-variants.{Defined, Undefined}

@@ -10,7 +10,7 @@ use super::status::result_of;
 ghost use mathlib.Core.Path.{_≡_};
 ghost use Prim.Native.Nat.{_+_, _<_};
 ghost use lib.ListN.{set};
-ghost use Rattle.board.specs.Address.{wrap};
+ghost use Rattle.units.specs.Address.{wrap};
 ghost use Rattle.cpu.specs.Machine.{machine, written};
 ghost use Rattle.cpu.specs.Held.{flagsIn, statusIn, held, control, Whole, Holds};
 

@@ -22,15 +22,15 @@ use super::memory::load_byte;
 use super::memory::store_byte;
 use super::outcome::MISALIGNED;
 use super::status::condition;
-use board::ByteAddress;
-use board::bits;
-use board::halfword_at;
-use board::put_halfword;
+use units::ByteAddress;
+use units::bits;
+use units::halfword_at;
+use units::put_halfword;
 ghost use mathlib.Core.Path.{_≡_};
 ghost use Prim.Native.Nat.{_+_, _<_};
 ghost use lib.ListN.{getD, length};
-ghost use Rattle.board.specs.Address.{wrap, memoryBytes};
-ghost use Rattle.board.specs.Field.{field};
+ghost use Rattle.units.specs.Address.{wrap, memoryBytes};
+ghost use Rattle.units.specs.Field.{field};
 ghost use Rattle.cpu.specs.Step.{resulting, addHighOf, addPcOf, andOf, asrOf, cmpImmOf, cmpOf, cmpHighOf, eorOf, ldrOf, ldrbOf, movImmOf, movHighOf, negOf, strOf, strbOf, tstOf};
 ghost use Rattle.cpu.specs.Held.{held, branched, Whole, Holds, Leads};
 
@@ -59,7 +59,7 @@ pub(crate) fn add_pc(regs: &mut [u16; 16], k: Control, h: u16) -> Control
     requires { ⌜ Whole (now regs) ⌝ }
     ensures { λ r. ⌜ Holds (now (regs .exit)) r (addPcOf (field h 8 3) (field h 0 8) (held (now (regs .entry)) k)) ⌝ }
 {
-    let r = board::pc_sum(ByteAddress(k.pc), bits(h, 0, 8));
+    let r = units::pc_sum(ByteAddress(k.pc), bits(h, 0, 8));
     write_low(regs, k.pc, bits(h, 8, 3), r, status_in(k))
 }
 
@@ -89,7 +89,7 @@ pub(crate) fn branch(k: Control, cond: u8, offset: u8) -> Control
 {
     let status = status_in(k);
     if condition(cond, status) {
-        let target = board::branch_target(ByteAddress(k.pc), offset);
+        let target = units::branch_target(ByteAddress(k.pc), offset);
         control_at(target.0, status)
     } else {
         advance(k.pc, status)

@@ -2,7 +2,7 @@
 ghost use mathlib.Core.Path.{_≡_};
 ghost use Prim.Native.Nat.{_<_};
 ghost use lib.ListN.{length};
-ghost use Rattle.board.specs.Bytes.{byteAt, withByte};
+ghost use Rattle.units.specs.Bytes.{byteAt, withByte};
 
 pub(crate) fn load_byte(memory: &[u8], a: usize) -> u16
     requires { ⌜ a < length (now memory) ⌝ }

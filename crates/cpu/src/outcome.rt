@@ -1,5 +1,5 @@
 // How a step ends.
-use board::Refusal;
+use refusals::Refusal;
 
 // The numbers of the stops.
 pub const ODD_PC: u8 = 18;

@@ -8,8 +8,8 @@ use native.Mathlib.Nat.{le-of-suc-le-suc, not-suc-le-zero}
 use native.Mathlib.Omega.{arith}
 use borrow.Author.Tests.{eq-eqb}
 use lib.ListN.{length}
-use Rattle.board.specs.Address.{memoryBytes}
-use Rattle.board.specs.declared.refusal.Refusal.{Refusal}
+use Rattle.units.specs.Address.{memoryBytes}
+use Rattle.refusals.specs.declared.refusal.Refusal.{Refusal}
 use Rattle.cpu.specs.declared.machine.Machine.{Machine}
 use Rattle.cpu.specs.declared.outcome.Outcome.{Outcome}
 use Rattle.cpu.specs.declared.outcome.Outcome.the-variants.{Completed, Halted, Stopped, Refused}

@@ -5,7 +5,7 @@ use Prim.Native.Nat.{ℕ, _+_, _<_, _≤_}
 use native.Mathlib.Omega.{arith}
 use lib.Dec.{leb, ltb}
 use borrow.Author.Tests.{leb-true, leb-false, le-leb, lt-leb, lt-ltb, le-ltb}
-use Rattle.board.specs.Address.{wrap}
+use Rattle.units.specs.Address.{wrap}
 use Rattle.cpu.specs.Alu.{negative, sumOf, sumFlags, differenceOf, differenceFlags}
 
 -- the signed number x, plus 32,768

@@ -8,9 +8,9 @@ use native.Mathlib.Omega.{arith}
 use lib.Bits.{bitAnd, bitXor, and-le-l, xor-lt}
 use lib.Dec.{eqb, ltb}
 use lib.ListN.{length, getD, set, length-set}
-use Rattle.board.specs.Refusal.{refusal}
-use Rattle.board.specs.Address.{branchTargetOf, memoryBytes}
-use Rattle.board.specs.Bytes.{byteAt, halfwordAt, withByte, withHalfword}
+use Rattle.refusals.specs.Refusal.{refusal}
+use Rattle.units.specs.Address.{branchTargetOf, memoryBytes}
+use Rattle.units.specs.Bytes.{byteAt, halfwordAt, withByte, withHalfword}
 use Rattle.isa.specs.declared.decoder.Decoded.{Decoded}
 use Rattle.isa.specs.declared.decoder.Decoded.the-variants.{Defined, Undefined}
 use Rattle.isa.specs.declared.instruction.Instruction.{Instruction}

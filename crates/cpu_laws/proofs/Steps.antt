@@ -6,9 +6,9 @@ use mathlib.Core.Path.{_≡_, refl}
 use Prim.Native.Nat.{ℕ, _*_, _%_}
 use lib.Dec.{eqb}
 use lib.ListN.{length}
-use Rattle.board.specs.Address.{memoryBytes}
-use Rattle.board.specs.Refusal.{refusal}
-use Rattle.board.specs.Bytes.{halfwordAt, withHalfword}
+use Rattle.units.specs.Address.{memoryBytes}
+use Rattle.refusals.specs.Refusal.{refusal}
+use Rattle.units.specs.Bytes.{halfwordAt, withHalfword}
 use Rattle.isa.specs.declared.decoder.Decoded.{Decoded}
 use Rattle.isa.specs.declared.decoder.Decoded.the-variants.{Defined, Undefined}
 use Rattle.isa.specs.declared.instruction.Instruction.{Instruction}

@@ -6,7 +6,7 @@ use Prim.Native.Nat.{ℕ, suc, _+_, _≤_, _<_}
 use native.Mathlib.Decide.{le-ind}
 use native.Mathlib.Omega.{arith}
 use borrow.Author.Tests.{eq-eqb, ne-eqb}
-use Rattle.board.specs.declared.refusal.Refusal.{Refusal}
+use Rattle.refusals.specs.declared.refusal.Refusal.{Refusal}
 use Rattle.image.specs.Block.{codeHalfword}
 use Rattle.image.specs.Check.{Asked, firstNo, unusedZero, blockChecks, checksBelow}
 use Rattle.image.specs.declared.answer.Answer.{Answer}

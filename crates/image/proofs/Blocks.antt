@@ -5,7 +5,7 @@ use Prim.Native.Nat.{ℕ, _+_, _-_, _*_, _≤_, _<_}
 use native.Mathlib.Omega.{arith}
 use lib.ListN.{length, getD, take, drop, length-drop}
 use lib.Seq.{getD-take, getD-drop, length-take-le}
-use Rattle.board.specs.Bytes.{halfwordAt}
+use Rattle.units.specs.Bytes.{halfwordAt}
 use Rattle.image.specs.Format.{blockBytes, blockHalfwords}
 use Rattle.image.specs.Block.{blockOf, halfword}
 

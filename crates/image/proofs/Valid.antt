@@ -7,7 +7,7 @@ use native.Mathlib.Omega.{arith}
 use borrow.Author.Tests.{leb-true, eqb-true}
 use lib.Dec.{eqb, leb}
 use lib.ListN.{length, getD}
-use Rattle.board.specs.Address.{memoryBytes}
+use Rattle.units.specs.Address.{memoryBytes}
 use Rattle.image.specs.Format.{blockBytes, blockCode, mostBytes, mostCode}
 use Rattle.image.specs.Block.{blocksIn, blockOf, usedOf}
 use Rattle.image.specs.Code.{codePosition, codeAt, codeLength, codeOf}

@@ -6,8 +6,8 @@ use Prim.Native.Nat.{ℕ, _+_, _-_, _*_, _%_, _≤_}
 use native.Mathlib.Omega.{arith}
 use borrow.Author.Tests.{leb-true, eqb-true}
 use lib.Dec.{eqb, leb}
-use Rattle.board.specs.Refusal.{refusal, refusalInBlock}
-use Rattle.board.specs.declared.refusal.Refusal.{Refusal}
+use Rattle.refusals.specs.Refusal.{refusal, refusalInBlock}
+use Rattle.refusals.specs.declared.refusal.Refusal.{Refusal}
 use lib.ListN.{length}
 use Rattle.image.specs.Format.{blockBytes, blockCode, mostBytes}
 use Rattle.image.specs.Block.{blocksIn, blockOf, usedOf, windowStartOf, windowLengthOf}

@@ -2,8 +2,8 @@
 use mathlib.Core.List.{List}
 use Prim.Native.Nat.{ℕ, zero, suc, _+_, _*_, _/_}
 use lib.ListN.{length, take, drop}
-use Rattle.board.specs.Address.{wrap}
-use Rattle.board.specs.Bytes.{halfwordAt}
+use Rattle.units.specs.Address.{wrap}
+use Rattle.units.specs.Bytes.{halfwordAt}
 use Rattle.image.specs.Format.{blockBytes, blockHalfwords, headerHalfwords}
 
 -- how many blocks a file has, and block k's bytes

@@ -4,9 +4,9 @@ use mathlib.Core.List.{List, [], _∷_, _++_}
 use Prim.Native.Nat.{ℕ, zero, suc, _+_, _-_, _*_, _%_}
 use lib.Dec.{eqb, leb}
 use lib.ListN.{length}
-use Rattle.board.specs.Address.{memoryBytes}
-use Rattle.board.specs.Refusal.{refusal, refusalInBlock}
-use Rattle.board.specs.declared.refusal.Refusal.{Refusal}
+use Rattle.units.specs.Address.{memoryBytes}
+use Rattle.refusals.specs.Refusal.{refusal, refusalInBlock}
+use Rattle.refusals.specs.declared.refusal.Refusal.{Refusal}
 use Rattle.image.specs.Format.{mark, blockBytes, blockCode, mostBytes}
 use Rattle.image.specs.Block.{blocksIn, blockOf, halfword, numberOf, usedOf, windowStartOf, windowLengthOf, countOf, codeHalfword, sumOf}
 use Rattle.image.specs.Code.{codeLength}

@@ -1,7 +1,7 @@
 -- The code of a file ("Image blocks"): what its blocks hold, one after the other.
 use mathlib.Core.List.{List}
 use Prim.Native.Nat.{ℕ, _+_, _-_, _*_, _/_, _%_}
-use Rattle.board.specs.Bytes.{halfwordAt}
+use Rattle.units.specs.Bytes.{halfwordAt}
 use Rattle.image.specs.Format.{blockBytes, blockCode, headerBytes, tabulate}
 use Rattle.image.specs.Block.{blocksIn, blockOf, usedOf}
 

@@ -1,8 +1,8 @@
 // The answer of a row of checks.
-use board::Place;
-use board::Refusal;
+use refusals::Place;
+use refusals::Refusal;
 ghost use mathlib.Core.Path.{_≡_};
-ghost use Rattle.board.specs.Refusal.{refusalInBlock};
+ghost use Rattle.refusals.specs.Refusal.{refusalInBlock};
 
 // What a row of checks comes to: all passed, or the first that failed.
 pub enum Answer {

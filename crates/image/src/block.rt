@@ -1,7 +1,7 @@
 // A block of a file: its bytes, its fields and its sum.
 use super::format::BLOCK_BYTES;
 use super::format::BLOCK_HALFWORDS;
-use board::halfword_at;
+use units::halfword_at;
 ghost use mathlib.Core.Path.{_≡_};
 ghost use Prim.Native.Nat.{_+_, _*_, _<_, _≤_};
 ghost use lib.ListN.{length};

@@ -2,8 +2,8 @@
 use super::format::BLOCK_BYTES;
 use super::format::BLOCK_CODE;
 use super::format::HEADER_BYTES;
-use board::InstructionIndex;
-use board::halfword_at;
+use units::InstructionIndex;
+use units::halfword_at;
 ghost use mathlib.Core.Path.{_≡_};
 ghost use Prim.Native.Nat.{_+_, _≤_};
 ghost use lib.ListN.{length};

@@ -10,8 +10,8 @@ use borrow.Author.Tests.{ne-eqb, eqb-true, lt-ltb, le-ltb}
 use lib.Dec.{eqb}
 use lib.ListN.{length, getD, List·getD-eq-default}
 use lib.Seq.{ext-getD}
-use Rattle.board.proofs.Halves.{low-byte, high-byte}
-use Rattle.board.specs.Bytes.{halfwordAt, byteOf}
+use Rattle.units.proofs.Halves.{low-byte, high-byte}
+use Rattle.units.specs.Bytes.{halfwordAt, byteOf}
 use Rattle.image.specs.Format.{blockBytes, blockHalfwords, blockCode, headerHalfwords}
 use Rattle.image.specs.Block.{blocksIn, blockOf, halfword, usedOf, codeHalfword, windowStartOf, windowLengthOf, sumBelow, sumOf}
 use Rattle.image.specs.Code.{codeAt, codeLength, codeOf}

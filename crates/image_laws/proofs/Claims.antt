@@ -6,7 +6,7 @@ use native.Mathlib.Omega.{arith}
 use borrow.Author.Tests.{leb-true, le-leb, eq-eqb}
 use lib.Dec.{leb}
 use lib.ListN.{length}
-use Rattle.board.specs.Bytes.{byteOf}
+use Rattle.units.specs.Bytes.{byteOf}
 use Rattle.image.specs.Format.{tabulateFrom}
 use Rattle.image.specs.Block.{blockOf, sumBelow}
 use Rattle.image.specs.Code.{codeAt, codeLength, codeOf}

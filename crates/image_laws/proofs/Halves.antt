@@ -8,7 +8,7 @@ use native.Mathlib.Nat.{eq-or-lt-of-le}
 use native.Mathlib.Omega.{arith}
 use borrow.Author.Tests.{eq-eqb, eqb-true, ltb-true, ltb-false}
 use lib.Dec.{eqb, ltb}
-use Rattle.board.specs.Address.{wrap}
+use Rattle.units.specs.Address.{wrap}
 use Rattle.image.specs.Block.{codeHalfword, addedTo, sumBelow}
 use Rattle.image.specs.Check.{unusedZero}
 use Rattle.image.proofs.Verdicts.{and-left, and-right}

@@ -10,9 +10,9 @@ use borrow.Author.Tests.{eq-eqb, ne-eqb, le-leb, le-ltb}
 use lib.Dec.{eqb}
 use lib.ListN.{length, getD, List·getD-eq-default}
 use lib.Seq.{ext-getD}
-use Rattle.board.proofs.Halves.{rejoined}
-use Rattle.board.specs.Bytes.{halfwordAt}
-use Rattle.board.specs.Address.{wrap}
+use Rattle.units.proofs.Halves.{rejoined}
+use Rattle.units.specs.Bytes.{halfwordAt}
+use Rattle.units.specs.Address.{wrap}
 use Rattle.image.specs.Format.{blockHalfwords, blockCode, headerHalfwords, mostCode}
 use Rattle.image.specs.Block.{blocksIn, blockOf, halfword, usedOf, codeHalfword, sumBelow, sumOf}
 use Rattle.image.specs.Code.{codeAt, codeLength, codeOf}

@@ -7,7 +7,7 @@ use native.Mathlib.Numerals.{add-one}
 use native.Mathlib.Omega.{arith}
 use borrow.Author.Tests.{lt-ltb, le-ltb}
 use lib.ListN.{length}
-use Rattle.board.specs.declared.refusal.Refusal.{Refusal}
+use Rattle.refusals.specs.declared.refusal.Refusal.{Refusal}
 use Rattle.image.specs.Block.{blocksIn, blockOf}
 use Rattle.image.specs.Check.{checkOf}
 use Rattle.reader.specs.Reader.{partOf, afterOf, startAs, startOf, givenAs, givenOf}

@@ -1,9 +1,9 @@
 // From a halfword to its instruction: by its top three bits, then by the
 // operation of its format.
 use super::instruction::Instruction;
-use board::bits;
-use board::high_rd;
-use board::high_rs;
+use units::bits;
+use units::high_rd;
+use units::high_rs;
 ghost use mathlib.Core.Path.{_≡_};
 ghost use Rattle.isa.specs.Decode.{decodeOf, haltOf, immOf, registersOf, aluOf, highOf, memoryOf, addPcOf, branchOf};
 

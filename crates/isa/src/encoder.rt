@@ -1,11 +1,11 @@
 // From an instruction to its halfword. Each format is put together in one
 // function, which refuses a field that its bits can't hold.
 use super::instruction::Instruction;
-use board::Refusal;
-use board::refusal_of;
+use refusals::Refusal;
+use refusals::refusal_of;
 ghost use mathlib.Core.Path.{_≡_};
 ghost use Prim.Native.Nat.{_<_};
-ghost use Rattle.board.specs.Refusal.{refusal};
+ghost use Rattle.refusals.specs.Refusal.{refusal};
 ghost use Rattle.isa.specs.Encode.{encodeOf, immForm, aluForm, highForm, memoryForm, addPcForm, branchForm};
 
 // An instruction's halfword, or check 17's refusal.

@@ -4,7 +4,7 @@ use mathlib.Core.Bool.{Bool, false}
 use Prim.Native.Nat.{ℕ}
 use native.Mathlib.Omega.{arith}
 use lib.Dec.{T, eqb, eqb→eq}
-use Rattle.board.specs.declared.address.InstructionIndex.{InstructionIndex}
+use Rattle.units.specs.declared.address.InstructionIndex.{InstructionIndex}
 use Rattle.isa.specs.declared.encoder.Encoded.{Encoded}
 use Rattle.isa.specs.declared.encoder.Encoded.the-variants.{Halfword, Refused}
 use Rattle.isa.specs.Encode.{encodeOf}

@@ -1,6 +1,6 @@
 -- Worked examples, each by computing ("Bench table").
 use mathlib.Core.Path.{_≡_, refl}
-use Rattle.board.specs.Refusal.{refusal}
+use Rattle.refusals.specs.Refusal.{refusal}
 use Rattle.isa.specs.declared.instruction.Instruction.the-variants.{CmpHigh, Halt}
 use Rattle.isa.specs.declared.decoder.Decoded.the-variants.{Defined, Undefined}
 use Rattle.isa.specs.declared.encoder.Encoded.the-variants.{Refused}

@@ -6,8 +6,8 @@ use mathlib.Core.List.{[], _∷_}
 use native.Mathlib.Omega.{arith}
 use borrow.Author.Tests.{lt-ltb, ltb-true}
 use lib.Dec.{ltb, lit<}
-use Rattle.board.specs.Field.{field}
-use Rattle.board.specs.Refusal.{refusal}
+use Rattle.units.specs.Field.{field}
+use Rattle.refusals.specs.Refusal.{refusal}
 use Rattle.isa.specs.declared.instruction.Instruction.{Instruction}
 use Rattle.isa.specs.declared.instruction.Instruction.the-variants.{Halt, MovImm, CmpImm, And, Eor, Asr, Tst, Neg, Cmp, AddHigh, CmpHigh, MovHigh, Str, Ldr, Strb, Ldrb, AddPc, Branch}
 use Rattle.isa.specs.declared.decoder.Decoded.the-variants.{Defined}

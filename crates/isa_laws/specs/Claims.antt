@@ -1,8 +1,8 @@
 -- What is claimed of the instruction set as a whole ("Encodings").
 use mathlib.Core.Path.{_≡_}
 use Prim.Native.Nat.{ℕ, _*_, _<_, _≤_}
-use Rattle.board.specs.declared.address.InstructionIndex.{InstructionIndex}
-use Rattle.board.specs.Address.{byteAddressOf, instructionIndexOf}
+use Rattle.units.specs.declared.address.InstructionIndex.{InstructionIndex}
+use Rattle.units.specs.Address.{byteAddressOf, instructionIndexOf}
 use Rattle.isa.specs.declared.instruction.Instruction.{Instruction}
 use Rattle.isa.specs.declared.decoder.Decoded.the-variants.{Defined}
 use Rattle.isa.specs.declared.encoder.Encoded.the-variants.{Halfword}

@@ -1,7 +1,7 @@
 -- The definition on examples.
 use mathlib.Core.List.{[], _∷_}
 use mathlib.Core.Path.{_≡_, refl}
-use Rattle.board.specs.Refusal.{refusalAt}
+use Rattle.refusals.specs.Refusal.{refusalAt}
 use Rattle.verifier.specs.declared.verifier.Verdict.the-variants.{Fit, Refused}
 use Rattle.lines.specs.Lines.{numberText, verdictText}
 

@@ -5,8 +5,8 @@ use mathlib.Core.Path.{_≡_}
 use Prim.Native.Nat.{ℕ, _+_, _-_, _/_, _%_, _≤_}
 use lib.Dec.{ltb}
 use lib.ListN.{length, take, replicate}
-use Rattle.board.specs.Refusal.{placeNumber}
-use Rattle.board.specs.declared.refusal.Refusal.{Refusal}
+use Rattle.refusals.specs.Refusal.{placeNumber}
+use Rattle.refusals.specs.declared.refusal.Refusal.{Refusal}
 use Rattle.image.specs.declared.checker.Layout.{Layout}
 use Rattle.verifier.specs.declared.verifier.Verdict.{Verdict}
 use Rattle.verifier.specs.declared.verifier.Verdict.the-variants as verdict

@@ -3,8 +3,8 @@ use super::writer::Line;
 use super::writer::line_of;
 use super::writer::put;
 use super::writer::put_number;
-use board::Refusal;
 use image::Layout;
+use refusals::Refusal;
 use verifier::Verdict;
 ghost use mathlib.Core.Path.{_≡_};
 ghost use Prim.Native.Nat.{_≤_};
@@ -28,7 +28,7 @@ fn refused_line(r: Refusal) -> Line
     let place = r.place;
     let word = line_of(b"refused");
     let number = put_number(word, r.number as u16);
-    let whole = put_number(number, board::place_number(place));
+    let whole = put_number(number, refusals::place_number(place));
     put(whole, b'\n')
 }
 

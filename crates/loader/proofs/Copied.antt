@@ -4,7 +4,7 @@ use mathlib.Core.Path.{_≡_, refl}
 use Prim.Native.Nat.{ℕ, zero, suc, _+_, _*_}
 use native.Mathlib.Numerals.{add-one}
 use lib.ListN.{length, length-set}
-use Rattle.board.specs.Bytes.{withHalfword}
+use Rattle.units.specs.Bytes.{withHalfword}
 use Rattle.image.specs.Code.{codeAt}
 use Rattle.loader.specs.Copy.{withCode}
 

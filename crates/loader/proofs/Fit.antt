@@ -4,7 +4,7 @@ use mathlib.Core.Path.{_≡_}
 use Prim.Native.Nat.{ℕ, _+_, _*_, _/_, _≤_, _<_}
 use native.Mathlib.Omega.{arith}
 use lib.ListN.{length}
-use Rattle.board.specs.Address.{memoryBytes}
+use Rattle.units.specs.Address.{memoryBytes}
 use Rattle.image.proofs.Valid.{code-halfword, valid-window, valid-code-bytes, code-in-file}
 use Rattle.image.specs.Check.{checkOf}
 use Rattle.image.specs.Code.{codePosition, codeOf}

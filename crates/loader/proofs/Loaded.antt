@@ -9,8 +9,8 @@ use borrow.Author.Tests.{eq-eqb, ne-eqb, lt-ltb, le-ltb, le-leb, lt-leb}
 use lib.Dec.{eqb}
 use lib.ListN.{length, getD, set, take, drop, replicate, length-set, length-take, length-drop, length-append, length-replicate, getD-replicate, List·getD-append}
 use lib.Seq.{getD-set-same, getD-set-other, getD-take, getD-drop, getD-append-add, ext-getD}
-use Rattle.board.specs.Bytes.{byteOf, withHalfword}
-use Rattle.board.specs.Address.{memoryBytes}
+use Rattle.units.specs.Bytes.{byteOf, withHalfword}
+use Rattle.units.specs.Address.{memoryBytes}
 use Rattle.image.proofs.Lists.{length-tabulate, tabulate-at}
 use Rattle.image.specs.Code.{codeAt, codeOf}
 use Rattle.image.specs.declared.checker.Layout.{Layout}

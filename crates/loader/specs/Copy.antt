@@ -2,7 +2,7 @@
 use mathlib.Core.List.{List, _++_}
 use Prim.Native.Nat.{ℕ, zero, suc, _-_, _*_}
 use lib.ListN.{take, drop, replicate}
-use Rattle.board.specs.Bytes.{withHalfword}
+use Rattle.units.specs.Bytes.{withHalfword}
 use Rattle.image.specs.Code.{codeAt}
 
 -- the first n instructions of a file copied to address 0

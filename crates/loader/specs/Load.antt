@@ -4,9 +4,9 @@ use mathlib.Core.List.{List}
 use Prim.Native.Nat.{ℕ, _+_, _/_, _%_}
 use lib.Dec.{eqb, leb, ltb}
 use lib.ListN.{length, getD}
-use Rattle.board.specs.Bytes.{byteOf}
-use Rattle.board.specs.Address.{memoryBytes}
-use Rattle.board.specs.Refusal.{refusal}
+use Rattle.units.specs.Bytes.{byteOf}
+use Rattle.units.specs.Address.{memoryBytes}
+use Rattle.refusals.specs.Refusal.{refusal}
 use Rattle.image.specs.Code.{codeOf}
 use Rattle.image.specs.Format.{tabulate}
 use Rattle.image.specs.declared.checker.Layout.{Layout}

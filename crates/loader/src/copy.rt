@@ -1,6 +1,6 @@
 // What a load does to memory.
-use board::InstructionIndex;
-use board::put_halfword;
+use units::InstructionIndex;
+use units::put_halfword;
 ghost use mathlib.Core.Path.{_≡_};
 ghost use Prim.Native.Nat.{ℕ, _+_, _*_, _≤_, _<_};
 ghost use lib.ListN.{length, replicate};

@@ -1,14 +1,14 @@
 // The load of a program: checks first, then memory.
 use super::copy::clear_window;
 use super::copy::copy_code;
-use board::MEMORY_BYTES;
-use board::Refusal;
-use board::refusal_of;
 use image::Layout;
+use refusals::Refusal;
+use refusals::refusal_of;
+use units::MEMORY_BYTES;
 use verifier::Verdict;
 ghost use mathlib.Core.Path.{_≡_};
 ghost use lib.ListN.{length};
-ghost use Rattle.board.specs.Address.{memoryBytes};
+ghost use Rattle.units.specs.Address.{memoryBytes};
 ghost use Rattle.verifier.specs.Verify.{verifyOf};
 ghost use Rattle.loader.specs.Load.{loadOf, memoryAfterLoad, loadedMemory};
 

@@ -5,8 +5,8 @@ use Prim.Native.Nat.{ℕ, zero, suc, _+_, _-_, _*_, _/_, _%_, _<_}
 use native.Mathlib.Omega.{arith}
 use borrow.Author.Tests.{lt-ltb}
 use lib.ListN.{length, getD, take, set}
-use Rattle.board.specs.Bytes.{byteOf}
-use Rattle.board.specs.Address.{wrap}
+use Rattle.units.specs.Bytes.{byteOf}
+use Rattle.units.specs.Address.{wrap}
 use Rattle.image.specs.Format.{blockBytes, blockHalfwords}
 use Rattle.image.specs.Block.{sumBelow}
 use Rattle.packer.specs.Pack.{blocksNeeded, bodyHalfword, balanceOf, imageHalfword, imageByte, imageOf}

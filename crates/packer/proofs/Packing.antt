@@ -5,7 +5,7 @@ use Prim.Native.Nat.{ℕ, _*_, _≤_}
 use borrow.Author.Tests.{leb-true, eqb-true}
 use lib.Dec.{leb}
 use lib.ListN.{length}
-use Rattle.board.specs.declared.refusal.Refusal.{Refusal}
+use Rattle.refusals.specs.declared.refusal.Refusal.{Refusal}
 use Rattle.image.specs.Format.{blockBytes, mostCode}
 use Rattle.image.specs.Check.{firstNo}
 use Rattle.packer.specs.Pack.{blocksNeeded, imageOf, check15, check16, packChecks, packedAs, packOf, outputAs, outputOf}

@@ -4,8 +4,8 @@ use mathlib.Core.List.{List, [], _∷_}
 use Prim.Native.Nat.{ℕ, _+_, _-_, _*_, _/_, _%_, min}
 use lib.Dec.{eqb, leb, ltb}
 use lib.ListN.{length, getD}
-use Rattle.board.specs.Bytes.{byteOf}
-use Rattle.board.specs.Address.{wrap}
+use Rattle.units.specs.Bytes.{byteOf}
+use Rattle.units.specs.Address.{wrap}
 use Rattle.image.specs.Format.{mark, blockBytes, blockHalfwords, blockCode, headerHalfwords, mostCode, tabulate}
 use Rattle.image.specs.Block.{sumBelow}
 use Rattle.image.specs.Check.{Asked, whole, firstNo, check8}

@@ -1,15 +1,15 @@
 // The packer: questions 15, 8 and 16, then the image.
 use super::writer::blocks_needed;
 use super::writer::write_image;
-use board::Refusal;
-use board::refusal_of;
 use image::Answer;
 use image::BLOCK_BYTES;
 use image::MOST_CODE;
 use image::is_window;
+use refusals::Refusal;
+use refusals::refusal_of;
 ghost use mathlib.Core.Path.{_≡_};
 ghost use lib.ListN.{length};
-ghost use Rattle.board.specs.Refusal.{refusal};
+ghost use Rattle.refusals.specs.Refusal.{refusal};
 ghost use Rattle.image.specs.Check.{firstNo};
 ghost use Rattle.packer.specs.Pack.{packChecks, packOf, outputOf};
 

@@ -1,10 +1,10 @@
 // The image of a code, put into bytes.
-use board::put_halfword;
 use image::BLOCK_BYTES;
 use image::BLOCK_CODE;
 use image::BLOCK_HALFWORDS;
 use image::HEADER_HALFWORDS;
 use image::MARK;
+use units::put_halfword;
 ghost use mathlib.Core.Path.{_≡_};
 ghost use Prim.Native.Nat.{_+_, _*_, _/_, _<_, _≤_};
 ghost use lib.ListN.{length, getD, take};

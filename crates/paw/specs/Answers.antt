@@ -1,7 +1,7 @@
 -- Answers as numbers: 0 in the low 16 bits is a pass, anything else the number of the check that failed.
 use Prim.Native.Nat.{ℕ, _+_, _*_}
-use Rattle.board.specs.Refusal.{placeNumber}
-use Rattle.board.specs.declared.refusal.Refusal.{Refusal}
+use Rattle.refusals.specs.Refusal.{placeNumber}
+use Rattle.refusals.specs.declared.refusal.Refusal.{Refusal}
 use Rattle.image.specs.declared.checker.Checked.{Checked}
 use Rattle.image.specs.declared.checker.Checked.the-variants as checked
 use Rattle.image.specs.declared.checker.Layout.{Layout}

@@ -1,9 +1,9 @@
 // Answers as numbers.
-use board::Refusal;
 use image::Checked;
 use image::Layout;
 use loader::Loaded;
 use packer::Packed;
+use refusals::Refusal;
 use verifier::Verdict;
 ghost use mathlib.Core.Path.{_≡_};
 ghost use Rattle.paw.specs.Answers.{refusalWord, layoutWord, checkedWord, verdictWord, loadedWord, packedNumber};
@@ -13,7 +13,7 @@ pub(crate) fn refusal_word(r: Refusal) -> u64
     ensures { λ w. ⌜ w ≡ refusalWord r ⌝ }
 {
     let place = r.place;
-    (r.number as u64) + (board::place_number(place) as u64) * 0x10000
+    (r.number as u64) + (refusals::place_number(place) as u64) * 0x10000
 }
 
 // The lengths of a program that passed.

@@ -6,9 +6,9 @@ use Prim.Native.Nat.{ℕ, _+_, _*_, _/_, _%_, _≤_}
 use native.Mathlib.Omega.{arith}
 use borrow.Author.Tests.{eq-eqb}
 use lib.ListN.{length, getD, getD-replicate}
-use Rattle.board.specs.Address.{memoryBytes}
-use Rattle.board.proofs.Halves.{rejoined}
-use Rattle.board.specs.Bytes.{byteAt, byteOf}
+use Rattle.units.specs.Address.{memoryBytes}
+use Rattle.units.proofs.Halves.{rejoined}
+use Rattle.units.specs.Bytes.{byteAt, byteOf}
 use Rattle.image.specs.Code.{codeOf}
 use Rattle.image.specs.declared.checker.Layout.{Layout}
 use Rattle.domain.specs.Value.{unknownOf}

@@ -8,9 +8,9 @@ use native.Mathlib.Decide.{ℕ-discrete}
 use native.Mathlib.Omega.{arith}
 use borrow.Author.Tests.{eq-eqb, ltb-true, eqb-true}
 use lib.ListN.{length, getD}
-use Rattle.board.specs.Address.{wrap}
-use Rattle.board.specs.declared.address.ByteAddress.{ByteAddress}
-use Rattle.board.specs.Bytes.{byteAt, halfwordAt}
+use Rattle.units.specs.Address.{wrap}
+use Rattle.units.specs.declared.address.ByteAddress.{ByteAddress}
+use Rattle.units.specs.Bytes.{byteAt, halfwordAt}
 use Rattle.isa.specs.Decode.{decodeOf}
 use Rattle.isa.specs.declared.decoder.Decoded.{Decoded}
 use Rattle.isa.specs.declared.decoder.Decoded.the-variants.{Defined}

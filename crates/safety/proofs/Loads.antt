@@ -8,9 +8,9 @@ use native.Mathlib.Omega.{arith}
 use borrow.Author.Tests.{lt-ltb, eqb-true}
 use lib.Dec.{eqb, ltb}
 use lib.ListN.{length, getD, List·getD-eq-default}
-use Rattle.board.specs.Address.{memoryBytes}
-use Rattle.board.specs.Refusal.{refusal}
-use Rattle.board.specs.Bytes.{byteAt, byteOf}
+use Rattle.units.specs.Address.{memoryBytes}
+use Rattle.refusals.specs.Refusal.{refusal}
+use Rattle.units.specs.Bytes.{byteAt, byteOf}
 use Rattle.image.proofs.Lists.{length-tabulate, tabulate-at}
 use Rattle.image.proofs.Valid.{code-halfword, code-fits}
 use Rattle.image.specs.Code.{codeOf}

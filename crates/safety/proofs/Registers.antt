@@ -7,7 +7,7 @@ use native.Mathlib.Decide.{ℕ-discrete}
 use native.Mathlib.Omega.{arith}
 use lib.ListN.{length, getD, set, length-set, getD-replicate}
 use lib.Seq.{getD-set-same, getD-set-other}
-use Rattle.board.specs.Address.{wrap}
+use Rattle.units.specs.Address.{wrap}
 use Rattle.domain.specs.Value.{unknownOf, exactlyOf}
 use Rattle.domain.specs.declared.value.Value.{Value}
 use Rattle.domain_laws.specs.Holds.{Holds}

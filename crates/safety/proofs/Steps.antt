@@ -10,9 +10,9 @@ use borrow.Author.Tests.{eq-eqb, eqb-false, not-true, lt-leb}
 use lib.Dec.{eqb, ltb}
 use lib.ListN.{length, set}
 use lib.Pow.{shr-le}
-use Rattle.board.specs.Address.{wrap, branchTargetOf, pcSum}
-use Rattle.board.specs.declared.address.ByteAddress.{ByteAddress}
-use Rattle.board.specs.Bytes.{byteAt, halfwordAt}
+use Rattle.units.specs.Address.{wrap, branchTargetOf, pcSum}
+use Rattle.units.specs.declared.address.ByteAddress.{ByteAddress}
+use Rattle.units.specs.Bytes.{byteAt, halfwordAt}
 use Rattle.isa.specs.declared.instruction.Instruction.{Instruction}
 use Rattle.isa.specs.declared.instruction.Instruction.the-variants.{MovImm, CmpImm, And, Eor, Asr, Tst, Neg, Cmp, AddHigh, CmpHigh, MovHigh, Str, Ldr, Strb, Ldrb, AddPc, Branch, Halt}
 use Rattle.domain.specs.declared.value.Value.{Value}

@@ -4,8 +4,8 @@ use mathlib.Core.Logic.{_⊎_}
 use mathlib.Core.Path.{_≡_}
 use Prim.Native.Nat.{ℕ, _+_, _%_, _≤_, _<_}
 use lib.ListN.{length}
-use Rattle.board.specs.Address.{memoryBytes}
-use Rattle.board.specs.Bytes.{byteAt}
+use Rattle.units.specs.Address.{memoryBytes}
+use Rattle.units.specs.Bytes.{byteAt}
 use Rattle.isa.specs.declared.decoder.Decoded.the-variants.{Defined}
 use Rattle.isa.specs.declared.instruction.Instruction.{Instruction}
 use Rattle.image.specs.declared.checker.Layout.{Layout}

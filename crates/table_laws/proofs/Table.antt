@@ -2,7 +2,7 @@
 use mathlib.Core.List.{List}
 use mathlib.Core.Path.{refl}
 use Prim.Native.Nat.{ℕ}
-use Rattle.board.specs.Bytes.{byteOf}
+use Rattle.units.specs.Bytes.{byteOf}
 use Rattle.cpu.specs.Step.{executeOf, addHighOf, addPcOf, asrOf, cmpImmOf, negOf}
 use Rattle.cpu.specs.Machine.{Flags}
 use Rattle.image.specs.Block.{blockOf, sumBelow}

@@ -4,9 +4,9 @@ use mathlib.Core.Path.{_≡_, sym, ap, _∙_}
 use Prim.Native.Nat.{ℕ, _+_, _≤_, _<_}
 use native.Mathlib.Omega.{arith}
 use lib.ListN.{length, getD}
-use Rattle.board.specs.Bytes.{halfwordAt}
-use Rattle.board.specs.Address.{instructionIndexOf}
-use Rattle.board.specs.declared.address.InstructionIndex.{InstructionIndex}
+use Rattle.units.specs.Bytes.{halfwordAt}
+use Rattle.units.specs.Address.{instructionIndexOf}
+use Rattle.units.specs.declared.address.InstructionIndex.{InstructionIndex}
 use Rattle.image.specs.Check.{checkOf}
 use Rattle.image.specs.Code.{codePosition, codeAt, codeOf}
 use Rattle.image.specs.declared.checker.Checked.the-variants.{Valid}

@@ -6,8 +6,8 @@ use Prim.Native.Nat.{ℕ, zero, suc, _+_, _*_, _/_, _%_, _≤_, _<_}
 use native.Mathlib.Omega.{arith}
 use borrow.Author.Tests.{eqb-true, ltb-true, lt-ltb}
 use lib.Dec.{eqb, ltb}
-use Rattle.board.specs.Field.{field, highRs, highRd}
-use Rattle.board.specs.declared.address.ByteAddress.{ByteAddress}
+use Rattle.units.specs.Field.{field, highRs, highRd}
+use Rattle.units.specs.declared.address.ByteAddress.{ByteAddress}
 use Rattle.isa.specs.Decode.{entry, only, immTable, aluTable, aluOf, highTable, highOf, registersTable, memoryTable, branchOf, table, decodeOf}
 use Rattle.isa.specs.declared.decoder.Decoded.{Decoded}
 use Rattle.isa.specs.declared.decoder.Decoded.the-variants.{Defined}

@@ -7,9 +7,9 @@ use native.Mathlib.Omega.{arith}
 use borrow.Author.Tests.{ne-eqb}
 use lib.Dec.{eqb}
 use lib.ListN.{getD}
-use Rattle.board.specs.Address.{instructionIndexOf}
-use Rattle.board.specs.declared.address.ByteAddress.{ByteAddress}
-use Rattle.board.specs.declared.address.InstructionIndex.{InstructionIndex}
+use Rattle.units.specs.Address.{instructionIndexOf}
+use Rattle.units.specs.declared.address.ByteAddress.{ByteAddress}
+use Rattle.units.specs.declared.address.InstructionIndex.{InstructionIndex}
 use Rattle.isa.specs.Decode.{decodeOf}
 use Rattle.isa.specs.declared.decoder.Decoded.{Decoded}
 use Rattle.image.specs.Format.{mostCode}

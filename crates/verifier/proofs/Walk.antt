@@ -6,10 +6,10 @@ use Prim.Native.Nat.{ℕ, zero, suc, _≤_, _<_}
 use native.Mathlib.Decide.{le-ind}
 use lib.Dec.{eqb, ltb}
 use lib.ListN.{length, getD, set, length-set}
-use Rattle.board.specs.Field.{field}
-use Rattle.board.specs.Refusal.{refusalAt}
-use Rattle.board.specs.declared.address.ByteAddress.{ByteAddress}
-use Rattle.board.specs.declared.refusal.Refusal.{Refusal}
+use Rattle.units.specs.Field.{field}
+use Rattle.refusals.specs.Refusal.{refusalAt}
+use Rattle.units.specs.declared.address.ByteAddress.{ByteAddress}
+use Rattle.refusals.specs.declared.refusal.Refusal.{Refusal}
 use Rattle.isa.specs.Decode.{only, haltOf, branchOf, decodeOf}
 use Rattle.isa.specs.declared.decoder.Decoded.{Decoded}
 use Rattle.isa.specs.declared.decoder.Decoded.the-variants.{Defined, Undefined}

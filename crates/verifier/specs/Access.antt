@@ -1,7 +1,7 @@
 -- What an instruction touches beside its registers: the data of a load or store, and the place that a branch goes to.
 use Prim.Native.Nat.{ℕ, _*_}
-use Rattle.board.specs.Address.{branchTargetOf}
-use Rattle.board.specs.declared.address.ByteAddress.{ByteAddress}
+use Rattle.units.specs.Address.{branchTargetOf}
+use Rattle.units.specs.declared.address.ByteAddress.{ByteAddress}
 use Rattle.isa.specs.declared.instruction.Instruction.{Instruction}
 use Rattle.isa.specs.declared.instruction.Instruction.the-variants.{MovImm, CmpImm, And, Eor, Asr, Tst, Neg, Cmp, AddHigh, CmpHigh, MovHigh, Str, Ldr, Strb, Ldrb, AddPc, Branch, Halt}
 use Rattle.verifier.specs.declared.branch.Target.{Target}

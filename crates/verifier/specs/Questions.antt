@@ -4,8 +4,8 @@ use mathlib.Core.Bool.{Bool, true, false, cond, not, _&&_}
 use mathlib.Core.List.{List, [], _∷_}
 use Prim.Native.Nat.{ℕ, zero, suc, _+_}
 use lib.Dec.{eqb, leb, ltb}
-use Rattle.board.specs.Refusal.{refusalAt}
-use Rattle.board.specs.declared.address.ByteAddress.{ByteAddress}
+use Rattle.refusals.specs.Refusal.{refusalAt}
+use Rattle.units.specs.declared.address.ByteAddress.{ByteAddress}
 use Rattle.isa.specs.declared.decoder.Decoded.{Decoded}
 use Rattle.isa.specs.declared.decoder.Decoded.the-variants.{Defined, Undefined}
 use Rattle.isa.specs.declared.instruction.Instruction.{Instruction}

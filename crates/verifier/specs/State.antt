@@ -2,7 +2,7 @@
 use mathlib.Core.List.{List}
 use Prim.Native.Nat.{ℕ}
 use lib.ListN.{getD, set, replicate}
-use Rattle.board.specs.Address.{pcSum}
+use Rattle.units.specs.Address.{pcSum}
 use Rattle.isa.specs.declared.decoder.Decoded.{Decoded}
 use Rattle.isa.specs.declared.decoder.Decoded.the-variants.{Defined, Undefined}
 use Rattle.isa.specs.declared.instruction.Instruction.{Instruction}

@@ -1,5 +1,5 @@
 // Where branches go.
-use board::ByteAddress;
+use units::ByteAddress;
 ghost use mathlib.Core.Path.{_≡_};
 ghost use Rattle.isa.specs.Decode.{decodeOf};
 ghost use Rattle.verifier.specs.Targets.{jumpAt};
@@ -20,12 +20,12 @@ const LAST_BRANCH: u8 = 0xdd;
 pub(crate) fn jump(a: ByteAddress, h: u16) -> Target
     ensures { λ r. ⌜ r ≡ jumpAt a (decodeOf h) ⌝ }
 {
-    let upper = board::bits(h, 8, 8);
+    let upper = units::bits(h, 8, 8);
     if upper < FIRST_BRANCH {
         return Target::Nowhere;
     }
     if upper > LAST_BRANCH {
         return Target::Nowhere;
     }
-    Target::To(board::branch_target(a, board::bits(h, 0, 8)))
+    Target::To(units::branch_target(a, units::bits(h, 0, 8)))
 }

@@ -1,16 +1,16 @@
 // Checks 10 to 14, each as the number of the check that fails, or 0.
 use super::state::PC;
 use super::state::value_at;
-use board::ByteAddress;
 use domain::Value;
 use image::Layout;
+use units::ByteAddress;
 ghost use mathlib.Core.Path.{_≡_};
 ghost use mathlib.Core.Bool.{cond, not};
 ghost use Prim.Native.Nat.{_<_};
 ghost use lib.Dec.{eqb, ltb};
 ghost use lib.ListN.{length};
-ghost use Rattle.board.specs.Address.{branchTargetOf};
-ghost use Rattle.board.specs.Field.{field};
+ghost use Rattle.units.specs.Address.{branchTargetOf};
+ghost use Rattle.units.specs.Field.{field};
 ghost use Rattle.isa.specs.declared.decoder.Decoded.the-variants.{Defined};
 ghost use Rattle.isa.specs.declared.instruction.Instruction.the-variants.{Str, Strb};
 ghost use Rattle.verifier.specs.State.{registerCount, pcRegister};
@@ -60,8 +60,8 @@ pub(crate) fn check_halfword(state: &[u64; 16], layout: Layout, h: u16) -> u8
     requires { ⌜ length (now state) ≡ registerCount ⌝ }
     ensures { λ r. ⌜ ((a : ByteAddress) → r ≡ numberOf (stateOf (now (state .entry))) layout a (Defined (Str (field h 6 5) (field h 3 3) (field h 0 3)))) ⌝ }
 {
-    let base = value_at(state, board::bits(h, 3, 3));
-    check_access(base, layout, 4 * (board::bits(h, 6, 5) as u16), 2)
+    let base = value_at(state, units::bits(h, 3, 3));
+    check_access(base, layout, 4 * (units::bits(h, 6, 5) as u16), 2)
 }
 
 // The same of a LDRB or STRB.
@@ -69,8 +69,8 @@ pub(crate) fn check_byte(state: &[u64; 16], layout: Layout, h: u16) -> u8
     requires { ⌜ length (now state) ≡ registerCount ⌝ }
     ensures { λ r. ⌜ ((a : ByteAddress) → r ≡ numberOf (stateOf (now (state .entry))) layout a (Defined (Strb (field h 6 5) (field h 3 3) (field h 0 3)))) ⌝ }
 {
-    let base = value_at(state, board::bits(h, 3, 3));
-    check_access(base, layout, board::bits(h, 6, 5) as u16, 1)
+    let base = value_at(state, units::bits(h, 3, 3));
+    check_access(base, layout, units::bits(h, 6, 5) as u16, 1)
 }
 
 // Check 12 of an instruction that writes Rd.
@@ -84,6 +84,6 @@ pub(crate) fn check_write(rd: u8) -> u8
 pub(crate) fn check_branch(a: ByteAddress, offset: u8, layout: Layout) -> u8
     ensures { λ r. ⌜ r ≡ cond (ltb (branchTargetOf a offset .0) (layout .«code_bytes»)) 0 13 ⌝ }
 {
-    let target = board::branch_target(a, offset);
+    let target = units::branch_target(a, offset);
     if target.0 < layout.code_bytes { 0 } else { 13 }
 }

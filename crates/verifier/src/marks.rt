@@ -3,17 +3,17 @@ use super::branch::Target;
 use super::branch::jump;
 use super::code::FIRST_POSITION;
 use super::code::position_after;
-use board::ByteAddress;
-use board::InstructionIndex;
-use board::halfword_at;
 use image::Checked;
 use image::Layout;
+use units::ByteAddress;
+use units::InstructionIndex;
+use units::halfword_at;
 ghost use mathlib.Core.Bool.{_||_};
 ghost use mathlib.Core.Path.{_≡_};
 ghost use Prim.Native.Nat.{ℕ, _<_};
 ghost use lib.Dec.{eqb};
 ghost use lib.ListN.{length};
-ghost use Rattle.board.specs.Address.{byteAddressOf};
+ghost use Rattle.units.specs.Address.{byteAddressOf};
 ghost use Rattle.isa.specs.Decode.{decodeOf};
 ghost use Rattle.image.specs.Check.{checkOf};
 ghost use Rattle.image.specs.Code.{codeOf};
@@ -51,10 +51,10 @@ fn mark_target(marks: &mut [u64; 249], i: InstructionIndex, h: u16)
     ensures { λ r. ⌜ length (now (marks .exit)) ≡ markWords ⌝ }
     ensures { λ r. ⌜ ((j : ℕ) → j < mostCode → markedAt (now (marks .exit)) j ≡ (landsOn (jumpAt (byteAddressOf i) (decodeOf h)) j || markedAt (now (marks .entry)) j)) ⌝ }
 {
-    let Target::To(a) = jump(board::byte_address(i), h) else {
+    let Target::To(a) = jump(units::byte_address(i), h) else {
         return;
     };
-    let target = board::instruction_index(a);
+    let target = units::instruction_index(a);
     if target.0 < MOST_CODE {
         set_mark(marks, target);
     }
@@ -66,7 +66,7 @@ pub(crate) fn mark_targets(file: &[u8], layout: Layout) -> [u64; 249]
     requires { ⌜ checkOf (now file) ≡ Checked.Valid layout ⌝ }
     ensures { λ r. ⌜ ((j : ℕ) → j < mostCode → markedAt r j ≡ targeted (codeOf (now (file .entry))) j) ⌝ }
 {
-    let count = board::instruction_index(ByteAddress(layout.code_bytes));
+    let count = units::instruction_index(ByteAddress(layout.code_bytes));
     let mut marks = [0u64; 249];
     let mut number = 0;
     let mut position = FIRST_POSITION;

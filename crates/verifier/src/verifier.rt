@@ -8,15 +8,15 @@ use super::state::REGISTERS;
 use super::state::set_value;
 use super::state::word_of;
 use super::visits::first_no;
-use board::ByteAddress;
-use board::InstructionIndex;
-use board::Place;
-use board::Refusal;
-use board::halfword_at;
 use image::Checked;
 use image::Layout;
+use refusals::Place;
+use refusals::Refusal;
+use units::ByteAddress;
+use units::InstructionIndex;
+use units::halfword_at;
 ghost use mathlib.Core.Path.{_≡_};
-ghost use Rattle.board.specs.Refusal.{refusalAt};
+ghost use Rattle.refusals.specs.Refusal.{refusalAt};
 ghost use Rattle.image.specs.Check.{checkOf};
 ghost use Rattle.image.specs.Code.{codeOf};
 ghost use Rattle.verifier.specs.Verify.{verifyCode, verifyOf};
@@ -44,7 +44,7 @@ fn walk(file: &[u8], layout: Layout) -> Verdict
     requires { ⌜ checkOf (now file) ≡ Checked.Valid layout ⌝ }
     ensures { λ r. ⌜ r ≡ verifyCode (codeOf (now (file .entry))) (layout .«window_start») (layout .«window_length») ⌝ }
 {
-    let count = board::instruction_index(ByteAddress(layout.code_bytes));
+    let count = units::instruction_index(ByteAddress(layout.code_bytes));
     let marks = mark_targets(file, layout);
     let unknown = word_of(domain::unknown());
     let mut state = [unknown; REGISTERS];
@@ -52,7 +52,7 @@ fn walk(file: &[u8], layout: Layout) -> Verdict
     let mut position = FIRST_POSITION;
     while number < count.0 {
         let i = InstructionIndex(number);
-        let a = board::byte_address(i);
+        let a = units::byte_address(i);
         if is_marked(&marks, i) {
             state = [unknown; REGISTERS];
         }

@@ -8,14 +8,14 @@ use super::checks::check_last;
 use super::checks::check_write;
 use super::state::set_value;
 use super::state::value_at;
-use board::ByteAddress;
 use domain::Value;
 use image::Layout;
+use units::ByteAddress;
 ghost use mathlib.Core.Path.{_≡_};
 ghost use Prim.Native.Nat.{ℕ};
 ghost use lib.ListN.{length, set};
-ghost use Rattle.board.specs.Address.{pcSum};
-ghost use Rattle.board.specs.Field.{field};
+ghost use Rattle.units.specs.Address.{pcSum};
+ghost use Rattle.units.specs.Field.{field};
 ghost use Rattle.isa.specs.Decode.{haltOf, aluOf, highOf, registersOf, branchOf, decodeOf};
 ghost use Rattle.domain.specs.Value.{exactlyOf};
 ghost use Rattle.image.specs.Check.{firstNo};
@@ -37,18 +37,18 @@ fn visit_halt(h: u16) -> u8
 fn move_imm(state: &mut [u64; 16], h: u16)
     ensures { λ _. ⌜ stateOf (now (state .exit)) ≡ set (stateOf (now (state .entry))) (field h 8 3) (exactlyOf (field h 0 8)) ⌝ }
 {
-    let imm = board::bits(h, 0, 8) as u16;
-    set_value(state, board::bits(h, 8, 3), domain::exactly(imm));
+    let imm = units::bits(h, 0, 8) as u16;
+    set_value(state, units::bits(h, 8, 3), domain::exactly(imm));
 }
 
 fn visit_alu(state: &mut [u64; 16], h: u16) -> u8
     requires { ⌜ length (now state) ≡ registerCount ⌝ }
     ensures { λ r. ⌜ ((s : State) (layout : Layout) (a : ByteAddress) → r ≡ numberOf s layout a (aluOf h)) × ((n : ℕ) → stateOf (now (state .exit)) ≡ afterOf n (aluOf h) (stateOf (now (state .entry)))) ⌝ }
 {
-    let rd = board::bits(h, 0, 3);
+    let rd = units::bits(h, 0, 3);
     let d = value_at(state, rd);
-    let s = value_at(state, board::bits(h, 3, 3));
-    match board::bits(h, 6, 4) {
+    let s = value_at(state, units::bits(h, 3, 3));
+    match units::bits(h, 6, 4) {
         0 => {
             set_value(state, rd, domain::and(d, s));
             0
@@ -75,16 +75,16 @@ fn visit_high(state: &mut [u64; 16], h: u16) -> u8
     requires { ⌜ length (now state) ≡ registerCount ⌝ }
     ensures { λ r. ⌜ ((s : State) (layout : Layout) (a : ByteAddress) → r ≡ numberOf s layout a (highOf h)) × ((n : ℕ) → stateOf (now (state .exit)) ≡ afterOf n (highOf h) (stateOf (now (state .entry)))) ⌝ }
 {
-    let rd = board::high_rd(h);
-    let s = value_at(state, board::high_rs(h));
-    match board::bits(h, 8, 2) {
+    let rd = units::high_rd(h);
+    let s = value_at(state, units::high_rs(h));
+    match units::bits(h, 8, 2) {
         0 => {
             let d = value_at(state, rd);
             set_value(state, rd, domain::add(d, s));
             check_write(rd)
         }
         1 => {
-            if board::bits(h, 6, 2) == 0 {
+            if units::bits(h, 6, 2) == 0 {
                 UNDEFINED
             } else {
                 0
@@ -103,7 +103,7 @@ fn visit_registers(state: &mut [u64; 16], h: u16) -> u8
     requires { ⌜ (length (now state) ≡ registerCount) × (field h 11 2 ≡ 0) ⌝ }
     ensures { λ r. ⌜ ((s : State) (layout : Layout) (a : ByteAddress) → r ≡ numberOf s layout a (registersOf h)) × ((n : ℕ) → stateOf (now (state .exit)) ≡ afterOf n (registersOf h) (stateOf (now (state .entry)))) ⌝ }
 {
-    if board::bits(h, 10, 1) == 0 {
+    if units::bits(h, 10, 1) == 0 {
         visit_alu(state, h)
     } else {
         visit_high(state, h)
@@ -114,15 +114,15 @@ fn visit_registers(state: &mut [u64; 16], h: u16) -> u8
 fn load(state: &mut [u64; 16], h: u16, v: Value)
     ensures { λ _. ⌜ stateOf (now (state .exit)) ≡ set (stateOf (now (state .entry))) (field h 0 3) v ⌝ }
 {
-    set_value(state, board::bits(h, 0, 3), v);
+    set_value(state, units::bits(h, 0, 3), v);
 }
 
 // ADD Rd, PC at an address.
 fn add_pc(state: &mut [u64; 16], a: ByteAddress, h: u16)
     ensures { λ _. ⌜ stateOf (now (state .exit)) ≡ set (stateOf (now (state .entry))) (field h 8 3) (exactlyOf (pcSum (a .0) (field h 0 8))) ⌝ }
 {
-    let sum = board::pc_sum(a, board::bits(h, 0, 8));
-    set_value(state, board::bits(h, 8, 3), domain::exactly(sum));
+    let sum = units::pc_sum(a, units::bits(h, 0, 8));
+    set_value(state, units::bits(h, 8, 3), domain::exactly(sum));
 }
 
 // A branch by one of the upper conditions, or a halfword with the number of
@@ -131,8 +131,8 @@ fn visit_branch(layout: Layout, a: ByteAddress, h: u16) -> u8
     requires { ⌜ field h 12 1 ≡ 1 ⌝ }
     ensures { λ r. ⌜ ((s : State) → r ≡ numberOf s layout a (branchOf h)) ⌝ }
 {
-    if board::bits(h, 8, 4) < 14 {
-        check_branch(a, board::bits(h, 0, 8), layout)
+    if units::bits(h, 8, 4) < 14 {
+        check_branch(a, units::bits(h, 0, 8), layout)
     } else {
         UNDEFINED
     }
@@ -144,7 +144,7 @@ fn visit(state: &mut [u64; 16], layout: Layout, a: ByteAddress, h: u16) -> u8
     requires { ⌜ length (now state) ≡ registerCount ⌝ }
     ensures { λ r. ⌜ (r ≡ numberOf (stateOf (now (state .entry))) layout a (decodeOf h)) × (stateOf (now (state .exit)) ≡ afterOf (a .0) (decodeOf h) (stateOf (now (state .entry)))) ⌝ }
 {
-    match board::bits(h, 11, 5) {
+    match units::bits(h, 11, 5) {
         0 => visit_halt(h),
         4 => {
             move_imm(state, h);
@@ -169,7 +169,7 @@ fn visit(state: &mut [u64; 16], layout: Layout, a: ByteAddress, h: u16) -> u8
             add_pc(state, a, h);
             0
         }
-        26 => check_branch(a, board::bits(h, 0, 8), layout),
+        26 => check_branch(a, units::bits(h, 0, 8), layout),
         27 => visit_branch(layout, a, h),
         _ => UNDEFINED,
     }

@@ -2,7 +2,7 @@
 use native.Mathlib.Omega.{arith}
 use mathlib.Core.Path.{_≡_, refl}
 use Prim.Native.Nat.{_≤_}
-use Rattle.board.specs.Field.{field}
+use Rattle.units.specs.Field.{field}
 use Rattle.isa.specs.Decode.{aluTable, aluOf}
 use Rattle.isa.specs.declared.instruction.Instruction.the-variants.{And, Eor, Asr, Tst, Neg, Cmp}
 use Rattle.isa.proofs.Table.{entry-past}

@@ -3,7 +3,7 @@ use native.Mathlib.Omega.{arith}
 use mathlib.Core.Path.{_≡_, refl}
 use Prim.Native.Nat.{_<_, _≤_}
 use borrow.Author.Tests.{lt-ltb}
-use Rattle.board.specs.Field.{field}
+use Rattle.units.specs.Field.{field}
 use Rattle.isa.specs.Decode.{highTable, highOf}
 use Rattle.isa.specs.declared.instruction.Instruction.the-variants.{AddHigh, CmpHigh, MovHigh}
 use Rattle.isa.proofs.Table.{entry-past}

@@ -1,7 +1,7 @@
 -- With the two bits above it 0, one bit picks the format.
 use native.Mathlib.Omega.{arith}
 use mathlib.Core.Path.{_≡_, _∙_}
-use Rattle.board.specs.Field.{field}
+use Rattle.units.specs.Field.{field}
 use Rattle.isa.specs.Decode.{aluOf, highOf, registersOf}
 use Rattle.isa.proofs.Formats.{one-bit}
 use Rattle.cpu.proofs.Formats.{leads-as}

@@ -1,7 +1,7 @@
 -- The condition picks the same arm in the definition.
 use Prim.Native.Nat.{_+_}
 use mathlib.Core.Path.{ap, _∙_}
-use Rattle.board.specs.Address.{wrap}
+use Rattle.units.specs.Address.{wrap}
 use Rattle.cpu.specs.declared.status.Status.{Status}
 use Rattle.cpu.specs.Alu.{conditionOf}
 use Rattle.cpu.specs.Held.{flagsIn, control}

@@ -1,6 +1,6 @@
 -- Rd is compared with the immediate.
 use native.Mathlib.Omega.{arith}
-use Rattle.board.specs.Field.{field}
+use Rattle.units.specs.Field.{field}
 use Rattle.cpu.specs.Step.{cmpImmOf}
 use Rattle.cpu.proofs.Ends.{low-is, advance-holds}
 use borrow.Author.Needs.{needs}

@@ -1,6 +1,6 @@
 -- A misaligned address stops before anything changes; another gives the halfword.
 use native.Mathlib.Omega.{arith}
-use Rattle.board.specs.Field.{field}
+use Rattle.units.specs.Field.{field}
 use Rattle.cpu.proofs.Access.{ldr-stops, ldr-completes}
 use borrow.Author.Needs.{needs}
 use Rattle.cpu.proofs.instructions.ldr.Statement.{statement}

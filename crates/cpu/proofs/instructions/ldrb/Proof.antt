@@ -1,6 +1,6 @@
 -- The byte at the address goes to Rd.
 use native.Mathlib.Omega.{arith}
-use Rattle.board.specs.Field.{field}
+use Rattle.units.specs.Field.{field}
 use Rattle.cpu.specs.Step.{ldrbOf}
 use Rattle.cpu.proofs.Ends.{low-is}
 use borrow.Author.Needs.{needs}

@@ -1,7 +1,7 @@
 -- A misaligned address stops before anything changes; another takes the halfword.
 use mathlib.Core.Path.{_∙_}
 use native.Mathlib.Omega.{arith}
-use Rattle.board.specs.Field.{field}
+use Rattle.units.specs.Field.{field}
 use Rattle.cpu.proofs.Access.{str-stops, str-completes}
 use borrow.Author.Needs.{needs}
 use Rattle.cpu.proofs.instructions.str.Statement.{statement}

@@ -1,7 +1,7 @@
 -- The address takes the low byte.
 use mathlib.Core.Path.{_∙_}
 use native.Mathlib.Omega.{arith}
-use Rattle.board.specs.Field.{field}
+use Rattle.units.specs.Field.{field}
 use Rattle.cpu.proofs.Access.{strb-completes}
 use borrow.Author.Needs.{needs}
 use Rattle.cpu.proofs.instructions.strb.Statement.{statement}

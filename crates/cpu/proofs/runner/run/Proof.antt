@@ -4,7 +4,7 @@ use native.Mathlib.Omega.{arith}
 use Prim.Native.Nat.{_≤_, _-_}
 use lib.ListN.{length}
 use mathlib.Core.Path.{_≡_, sym, _∙_}
-use Rattle.board.specs.Address.{memoryBytes}
+use Rattle.units.specs.Address.{memoryBytes}
 use Rattle.cpu.specs.Run.{runFrom}
 use Rattle.cpu.specs.Held.{held, Whole}
 use Rattle.cpu.proofs.Runs.{state, run-refused, run-starts, run-spent, run-ends, run-again}

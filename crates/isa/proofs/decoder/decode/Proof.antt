@@ -1,6 +1,6 @@
 -- The top three bits pick the format.
 use native.Mathlib.Omega.{arith}
-use Rattle.board.specs.Field.{field}
+use Rattle.units.specs.Field.{field}
 use mathlib.Core.Path.{_≡_}
 use Prim.Native.Nat.{zero-le}
 use Prim.Native.Nat.{_≤_}

@@ -1,7 +1,7 @@
 -- The one test is the definition's.
 use native.Mathlib.Omega.{arith}
 use borrow.Author.Tests.{ne-eqb}
-use Rattle.board.specs.Field.{field}
+use Rattle.units.specs.Field.{field}
 use mathlib.Core.Path.{_≡_}
 use borrow.Author.Needs.{needs}
 use Rattle.isa.proofs.decoder.decode_add_pc.Statement.{statement}

@@ -1,7 +1,7 @@
 -- The operation's bits pick the table's entry.
 use mathlib.Core.Path.{_≡_}
 use native.Mathlib.Omega.{arith}
-use Rattle.board.specs.Field.{field}
+use Rattle.units.specs.Field.{field}
 use Prim.Native.Nat.{_≤_}
 use Rattle.isa.proofs.Table.{entry-past}
 use borrow.Author.Needs.{needs}

@@ -1,7 +1,7 @@
 -- The two tests are the definition's.
 use native.Mathlib.Omega.{arith}
 use borrow.Author.Tests.{ne-eqb, lt-ltb, le-ltb}
-use Rattle.board.specs.Field.{field}
+use Rattle.units.specs.Field.{field}
 use mathlib.Core.Path.{_≡_}
 use Prim.Native.Nat.{_<_, _≤_}
 use borrow.Author.Needs.{needs}

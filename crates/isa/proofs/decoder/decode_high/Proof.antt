@@ -1,7 +1,7 @@
 -- The operation's bits pick the table's entry; a comparison asks for H1 or H2 as well.
 use native.Mathlib.Omega.{arith}
 use borrow.Author.Tests.{lt-ltb}
-use Rattle.board.specs.Field.{field}
+use Rattle.units.specs.Field.{field}
 use mathlib.Core.Path.{_≡_}
 use Prim.Native.Nat.{_<_, _≤_}
 use Rattle.isa.proofs.Table.{entry-past}

@@ -1,6 +1,6 @@
 -- Bits 12 to 10 pick the format.
 use native.Mathlib.Omega.{arith}
-use Rattle.board.specs.Field.{field}
+use Rattle.units.specs.Field.{field}
 use mathlib.Core.Path.{_≡_}
 use Prim.Native.Nat.{_≤_}
 use Rattle.isa.proofs.Table.{entry-past}

@@ -3,7 +3,7 @@ use native.Mathlib.Omega.{arith}
 use mathlib.Core.Path.{refl, ap}
 use Prim.Native.Nat.{_*_, _%_, _<_, _≤_}
 use borrow.Author.Tests.{lt-ltb, le-ltb}
-use Rattle.board.proofs.Or.{low, top}
+use Rattle.units.proofs.Or.{low, top}
 use Rattle.isa.specs.declared.encoder.Encoded.the-variants.{Halfword}
 use borrow.Author.Needs.{needs}
 use Rattle.isa.proofs.encoder.branch_form.Statement.{statement}

@@ -3,7 +3,7 @@ use native.Mathlib.Omega.{arith}
 use mathlib.Core.Path.{_≡_, refl, ap, _∙_}
 use Prim.Native.Nat.{ℕ, _+_, _*_, _/_, _%_, _<_, _≤_}
 use borrow.Author.Tests.{lt-ltb, le-ltb}
-use Rattle.board.proofs.Or.{low, top}
+use Rattle.units.proofs.Or.{low, top}
 use Rattle.isa.specs.declared.encoder.Encoded.the-variants.{Halfword}
 use lib.Bits.{and-mask, mask-lt, bitAnd}
 use borrow.Author.Needs.{needs}

@@ -5,7 +5,7 @@ use Prim.Native.Nat.{ℕ, _-_, _*_, _≤_}
 use native.Mathlib.Omega.{arith}
 use borrow.Author.Needs.{needs}
 use lib.ListN.{length}
-use Rattle.board.specs.Bytes.{withHalfword}
+use Rattle.units.specs.Bytes.{withHalfword}
 use Rattle.loader.specs.Copy.{withCode}
 use Rattle.loader.proofs.Copied.{code-none, code-more, code-long}
 use Rattle.loader.proofs.copy.copy_code.Statement.{statement}

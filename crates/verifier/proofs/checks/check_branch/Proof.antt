@@ -4,7 +4,7 @@ use mathlib.Core.Path.{_≡_, ap, _∙_}
 use Prim.Native.Nat.{ℕ}
 use borrow.Author.Tests.{lt-ltb, le-ltb}
 use lib.Dec.{ltb}
-use Rattle.board.specs.declared.address.ByteAddress.{ByteAddress}
+use Rattle.units.specs.declared.address.ByteAddress.{ByteAddress}
 use borrow.Author.Needs.{needs}
 use Rattle.verifier.proofs.checks.check_branch.Statement.{statement}
 use Rattle.verifier.proofs.checks.check_branch.Tie as tie

@@ -1,6 +1,6 @@
 -- `mark_target` is right because it follows the definition's cases, and a target past every code has no mark to set.
 use mathlib.Core.Path.{_∙_}
-use Rattle.board.specs.Address.{byteAddressOf}
+use Rattle.units.specs.Address.{byteAddressOf}
 use Rattle.isa.specs.Decode.{decodeOf}
 use Rattle.verifier.proofs.Marking.{jump-is, stay, past, mark}
 use borrow.Author.Needs.{needs}

@@ -9,7 +9,7 @@ use native.Mathlib.Omega.{arith}
 use borrow.Author.Needs.{needs}
 use lib.Dec.{eqb}
 use lib.ListN.{length, getD, replicate}
-use Rattle.board.specs.declared.address.ByteAddress.{ByteAddress}
+use Rattle.units.specs.declared.address.ByteAddress.{ByteAddress}
 use Rattle.image.specs.Check.{firstNo}
 use Rattle.image.specs.Code.{codePosition, codeOf}
 use Rattle.image.specs.declared.answer.Answer.the-variants.{Pass}

@@ -2,7 +2,7 @@
 use mathlib.Core.Path.{_≡_, _∙_}
 use Prim.Native.Nat.{_≤_}
 use native.Mathlib.Omega.{arith}
-use Rattle.board.specs.Field.{field}
+use Rattle.units.specs.Field.{field}
 use Rattle.isa.proofs.Table.{entry-past}
 use borrow.Author.Needs.{needs}
 use Rattle.verifier.proofs.visits.visit_alu.Statement.{statement}

@@ -1,7 +1,7 @@
 -- With the two bits above it 0, one bit picks the format.
 use mathlib.Core.Path.{_≡_, _∙_}
 use native.Mathlib.Omega.{arith}
-use Rattle.board.specs.Field.{field}
+use Rattle.units.specs.Field.{field}
 use Rattle.isa.proofs.Formats.{one-bit}
 use borrow.Author.Needs.{needs}
 use Rattle.verifier.proofs.visits.visit_registers.Statement.{statement}

@@ -1,4 +1,0 @@
-pub mod Address
-pub mod Bytes
-pub mod Field
-pub mod Refusal

@@ -1,0 +1,16 @@
+-- H1, moved to bit 3, shares no bit with the three bits of Rd.
+use native.Mathlib.Omega.{arith}
+use mathlib.Core.Path.{refl}
+use Prim.Native.Nat.{_*_, _%_}
+use Rattle.units.proofs.Or.{low}
+use borrow.Author.Needs.{needs}
+use Rattle.units.proofs.fields.high_rd.Statement.{statement}
+use Rattle.units.proofs.fields.high_rd.Tie as tie
+
+pub high-rd-spec : {M : Type 1} → statement M
+high-rd-spec =
+    tie.close
+    (tie.spec
+    (λ c κs. search needs)
+    (λ c κs. search needs)
+    (λ c. omega (arith, low 3 {x = c .before .bits .result * 8 % 256} (c .bits2 .result) refl (omega arith) (omega arith))))

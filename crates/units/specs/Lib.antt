@@ -1,0 +1,3 @@
+pub mod Address
+pub mod Bytes
+pub mod Field
