@@ -3,9 +3,9 @@ use super::console::print;
 use super::console::print_number;
 use super::console::print_verdict;
 use cpu::Machine;
-use cpu::RunOutcome;
 use image::Checked;
 use loader::Loaded;
+use runner::RunOutcome;
 use verifier::Verdict;
 
 // A machine as it starts: all registers and flags 0.
@@ -61,7 +61,7 @@ fn print_run(file: &[u8], budget: u32) {
             print_verdict(Verdict::Refused(r));
         }
         Loaded::Done(_) => {
-            let out = cpu::run(cleared(), &mut memory, budget);
+            let out = runner::run(cleared(), &mut memory, budget);
             let outcome = out.outcome;
             print_outcome(outcome, out.count);
         }

@@ -4,4 +4,3 @@ pub mod States
 pub mod Access
 pub mod Formats
 pub mod Fetch
-pub mod Runs

@@ -12,10 +12,6 @@ use Rattle.cpu.specs.declared.machine.Machine.{Machine}
 use Rattle.cpu.specs.declared.status.Status.{Status}
 use Rattle.cpu.specs.declared.held.Control.{Control}
 use Rattle.cpu.specs.declared.held.Executed.{Executed}
-use Rattle.cpu.specs.declared.outcome.Outcome.{Outcome}
-use Rattle.cpu.specs.declared.outcome.Outcome.the-variants.{Completed, Halted, Stopped, Refused}
-use Rattle.cpu.specs.declared.runner.RunOutcome.{RunOutcome}
-use Rattle.cpu.specs.declared.runner.RunOutcome.the-variants as ended
 use Rattle.cpu.specs.Machine.{Flags, machine}
 use Rattle.cpu.specs.Alu.{negative, conditionOf}
 use Rattle.cpu.specs.Step.{StepResult, stepResult, executeDecoded}
@@ -55,13 +51,6 @@ Above regs e d m = (memory : List ℕ) → Leads regs e memory (executeDecoded d
 -- and one that leaves the registers alone as well, whatever they are
 abbrev pub Beside : Executed → Control → Decoded → Type 0
 Beside e k d = (regs : List ℕ) → Whole regs → Above regs e d (held regs k)
-
--- how a run ends after its last step: one that completed spent the budget
-abbrev pub asRun : Outcome → RunOutcome
-asRun Completed = ended.Spent
-asRun Halted = ended.Halted
-asRun (Stopped number) = ended.Stopped number
-asRun (Refused r) = ended.Refused r
 
 -- the flags as a number of four bits
 abbrev pub stateOf : Flags → ℕ

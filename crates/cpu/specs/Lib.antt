@@ -1,5 +1,4 @@
 pub mod Machine
 pub mod Alu
 pub mod Step
-pub mod Run
 pub mod Held

@@ -52,7 +52,7 @@ pub(crate) fn control_at(pc: u16, status: Status) -> Control
 }
 
 // What stands beside the registers of a machine.
-pub(crate) fn control_of(m: Machine) -> Control
+pub fn control_of(m: Machine) -> Control
     ensures { λ k. ⌜ held (m .regs) k ≡ m ⌝ }
 {
     let result = result_of(m.n, m.z);
@@ -65,7 +65,7 @@ pub(crate) fn control_of(m: Machine) -> Control
 }
 
 // The machine that is held.
-pub(crate) fn assemble(regs: [u16; 16], k: Control) -> Machine
+pub fn assemble(regs: [u16; 16], k: Control) -> Machine
     ensures { λ m. ⌜ m ≡ held regs k ⌝ }
 {
     let mut regs = regs;

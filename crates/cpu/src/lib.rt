@@ -1,7 +1,5 @@
-// The PAW processor: its machine, what each instruction does to it, and a run with
-// a budget.
-// Memory is the caller's, 65,536 bytes; code may read, write and execute any
-// of them.
+// The PAW processor: its machine, and what each instruction does to it. Memory is
+// the caller's, 65,536 bytes; code may read, write and execute any of them.
 mod alu;
 mod executor;
 mod held;
@@ -9,11 +7,12 @@ mod instructions;
 mod machine;
 mod memory;
 mod outcome;
-mod runner;
 mod status;
 
+pub use executor::fetch_and_execute;
+pub use held::Control;
+pub use held::Executed;
+pub use held::assemble;
+pub use held::control_of;
 pub use machine::Machine;
 pub use outcome::Outcome;
-pub use runner::Ran;
-pub use runner::RunOutcome;
-pub use runner::run;

@@ -13,10 +13,10 @@ use Rattle.refusals.specs.declared.refusal.Refusal.{Refusal}
 use Rattle.cpu.specs.declared.machine.Machine.{Machine}
 use Rattle.cpu.specs.declared.outcome.Outcome.{Outcome}
 use Rattle.cpu.specs.declared.outcome.Outcome.the-variants.{Completed, Halted, Stopped, Refused}
-use Rattle.cpu.specs.declared.runner.RunOutcome.{RunOutcome}
-use Rattle.cpu.specs.declared.runner.RunOutcome.the-variants as run
+use Rattle.runner.specs.declared.runs.RunOutcome.{RunOutcome}
+use Rattle.runner.specs.declared.runs.RunOutcome.the-variants as run
 use Rattle.cpu.specs.Step.{State, stepOf}
-use Rattle.cpu.specs.Run.{RunResult, nextState, stateAfter, goOn, runFrom, runOf}
+use Rattle.runner.specs.Run.{RunResult, nextState, stateAfter, goOn, runFrom, runOf}
 use Rattle.cpu_laws.proofs.Steps.{state, step-whole}
 
 -- how the step at a state ends

@@ -1,9 +1,9 @@
 // A run, its ending and its count as one number.
 use cpu::Machine;
-use cpu::RunOutcome;
+use runner::RunOutcome;
 ghost use mathlib.Core.Path.{_≡_};
 ghost use Prim.Native.Nat.{_<_};
-ghost use Rattle.cpu.specs.Run.{runOf};
+ghost use Rattle.runner.specs.Run.{runOf};
 ghost use Rattle.endings.specs.Endings.{runNumber, numbered, numberedRun};
 
 // A machine after a run, how the run ended, and its count.
@@ -28,7 +28,7 @@ fn run_number(o: RunOutcome) -> u64
 pub fn run_numbered(m: Machine, memory: &mut [u8], budget: u32) -> AfterRun
     ensures { λ r. ⌜ numbered (r .machine) (now (memory .exit)) (r .number) ≡ numberedRun (runOf budget m (now (memory .entry))) ⌝ }
 {
-    let out = cpu::run(m, memory, budget);
+    let out = runner::run(m, memory, budget);
     let machine = out.machine;
     let outcome = out.outcome;
     let number = run_number(outcome) + (out.count as u64) * 0x100000000;

@@ -3,7 +3,7 @@
 use cpu::Machine;
 ghost use mathlib.Core.Path.{_≡_};
 ghost use Rattle.cpu.specs.Step.{stepOf};
-ghost use Rattle.cpu.specs.Run.{runOf};
+ghost use Rattle.runner.specs.Run.{runOf};
 ghost use Rattle.endings.specs.Endings.{numbered, numberedStep, numberedRun};
 
 // One step of the caller's machine, which is written back whole. Answers 0 for

@@ -17,11 +17,11 @@ use Rattle.verifier.specs.Verify.{entering}
 use Rattle.cpu.specs.declared.machine.Machine.{Machine}
 use Rattle.cpu.specs.declared.outcome.Outcome.{Outcome}
 use Rattle.cpu.specs.declared.outcome.Outcome.the-variants.{Completed, Halted}
-use Rattle.cpu.specs.declared.runner.RunOutcome.{RunOutcome}
-use Rattle.cpu.specs.declared.runner.RunOutcome.the-variants as run
+use Rattle.runner.specs.declared.runs.RunOutcome.{RunOutcome}
+use Rattle.runner.specs.declared.runs.RunOutcome.the-variants as run
 use Rattle.cpu.specs.Machine.{reg}
 use Rattle.cpu.specs.Step.{State}
-use Rattle.cpu.specs.Run.{nextState, stateAfter, runFrom, runOf}
+use Rattle.runner.specs.Run.{nextState, stateAfter, runFrom, runOf}
 use Rattle.loader.specs.Load.{codeByte}
 use Rattle.safety.specs.Safety.{Start, HoldsCode, SafeState, SafeRun, Demand3, LoadHolds}
 use Rattle.safety.proofs.Fitness.{FitCode, fit-code}

@@ -12,7 +12,7 @@ use Rattle.cpu.specs.declared.outcome.Outcome.{Outcome}
 use Rattle.cpu.specs.declared.outcome.Outcome.the-variants.{Completed, Halted}
 use Rattle.cpu.specs.Machine.{pc}
 use Rattle.cpu.specs.Step.{State, stepOf}
-use Rattle.cpu.specs.Run.{nextState, runFrom}
+use Rattle.runner.specs.Run.{nextState, runFrom}
 use Rattle.safety.specs.Safety.{SameWindow, SameResult}
 use Rattle.safety.proofs.Fitness.{FitCode}
 use Rattle.safety.proofs.Invariant.{Inv, HoldsHalfwords, step-is, safe-access, next}

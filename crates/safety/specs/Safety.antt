@@ -14,10 +14,10 @@ use Rattle.verifier.specs.Verify.{verifyOf}
 use Rattle.verifier.specs.declared.verifier.Verdict.the-variants.{Fit}
 use Rattle.cpu.specs.declared.machine.Machine.{Machine}
 use Rattle.cpu.specs.declared.outcome.Outcome.the-variants as step
-use Rattle.cpu.specs.declared.runner.RunOutcome.the-variants as run
+use Rattle.runner.specs.declared.runs.RunOutcome.the-variants as run
 use Rattle.cpu.specs.Machine.{reg, pc}
 use Rattle.cpu.specs.Step.{State, effectiveAddress, fetched, stepOf}
-use Rattle.cpu.specs.Run.{RunResult, stateAfter, runOf}
+use Rattle.runner.specs.Run.{RunResult, stateAfter, runOf}
 use Rattle.loader.specs.Load.{codeByte, loadOf, memoryAfterLoad}
 use Rattle.loader.specs.declared.loader.Loaded.the-variants.{Done}
 

@@ -10,10 +10,10 @@ use Rattle.refusals.specs.Refusal.{refusal}
 use Rattle.cpu.specs.declared.machine.Machine.{Machine}
 use Rattle.cpu.specs.declared.outcome.Outcome.{Outcome}
 use Rattle.cpu.specs.declared.outcome.Outcome.the-variants.{Completed, Halted, Stopped, Refused}
-use Rattle.cpu.specs.declared.runner.RunOutcome.{RunOutcome}
-use Rattle.cpu.specs.declared.runner.RunOutcome.the-variants.{Spent}
+use Rattle.runner.specs.declared.runs.RunOutcome.{RunOutcome}
+use Rattle.runner.specs.declared.runs.RunOutcome.the-variants.{Spent}
 use Rattle.cpu.specs.Step.{State, StepResult, stepResult, stepOf}
-use Rattle.cpu.specs.Run.{RunResult, runResult, goOn, runFrom, runOf}
+use Rattle.runner.specs.Run.{RunResult, runResult, goOn, runFrom, runOf}
 use Rattle.stepper.specs.Ends.{asStep}
 
 -- a run of one step, as a step

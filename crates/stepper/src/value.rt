@@ -1,8 +1,8 @@
 // A step by value.
 use cpu::Machine;
 use cpu::Outcome;
-use cpu::RunOutcome;
-use cpu::run;
+use runner::RunOutcome;
+use runner::run;
 ghost use mathlib.Core.Path.{_≡_};
 ghost use Rattle.cpu.specs.Step.{stepResult, stepOf};
 ghost use Rattle.stepper.specs.Ends.{asStep};

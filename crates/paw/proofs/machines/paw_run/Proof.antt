@@ -43,7 +43,7 @@ use denote.Exit.{yes}
 use denote.Triple.Walked.{says, Stays, stay-ref, stay-none, gave-slice, walkOf, goes-none, goes-ref, goes-gave-slice, Walks, ends-at, walked, walk-meets}
 use denote.Signature.{plain}
 use Rattle.cpu.specs.declared.machine.Machine.{Machine}
-use Rattle.cpu.specs.Run.{runOf}
+use Rattle.runner.specs.Run.{runOf}
 use Rattle.endings.specs.declared.run.AfterRun.{AfterRun}
 use Rattle.endings.specs.Endings.{numbered, numberedRun}
 use Rattle.cpu.proofs.machine.Machine as T

@@ -11,18 +11,19 @@ use denote.Enum.Declared.{tagOf}
 use Rattle.units.specs.Address.{memoryBytes}
 use Rattle.refusals.specs.Refusal.{refusal}
 use Rattle.refusals.specs.declared.refusal.Refusal.{Refusal}
 use Rattle.cpu.specs.declared.held.Control.{Control}
 use Rattle.cpu.specs.declared.held.Executed.{Executed}
 use Rattle.cpu.specs.declared.machine.Machine.{Machine}
-use Rattle.cpu.specs.declared.runner.Ran.{Ran}
-use Rattle.cpu.specs.declared.runner.RunOutcome.{RunOutcome}
-use Rattle.cpu.specs.declared.runner.RunOutcome.the-variants.{Spent, Refused as RunRefused}
+use Rattle.runner.specs.declared.runs.Ran.{Ran}
+use Rattle.runner.specs.declared.runs.RunOutcome.{RunOutcome}
+use Rattle.runner.specs.declared.runs.RunOutcome.the-variants.{Spent, Refused as RunRefused}
 use Rattle.cpu.specs.declared.outcome.Outcome.{Outcome}
 use Rattle.cpu.specs.declared.outcome.Outcome.the-variants.{Completed, Halted, Stopped, Refused}
 use Rattle.cpu.specs.Step.{State, StepResult, stepResult, fetchAndExecute, stepOf}
-use Rattle.cpu.specs.Run.{RunResult, runResult, goOn, runFrom, runOf}
-use Rattle.cpu.specs.Held.{held, asRun, Leads}
+use Rattle.runner.specs.Run.{RunResult, runResult, goOn, runFrom, runOf}
+use Rattle.cpu.specs.Held.{held, Leads}
+use Rattle.runner.specs.Ends.{asRun}
 use Rattle.cpu.proofs.outcome.Outcome.{the-type}
 
 abbrev pub state : Machine → List ℕ → State
 state m memory = record { machine = m; memory = memory }

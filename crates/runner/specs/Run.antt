@@ -6,12 +6,12 @@ use lib.Dec.{eqb}
 use lib.ListN.{length}
 use Rattle.units.specs.Address.{memoryBytes}
 use Rattle.refusals.specs.Refusal.{refusal}
 use Rattle.cpu.specs.declared.machine.Machine.{Machine}
 use Rattle.cpu.specs.declared.outcome.Outcome.{Outcome}
 use Rattle.cpu.specs.declared.outcome.Outcome.the-variants.{Completed, Halted, Stopped, Refused}
-use Rattle.cpu.specs.declared.runner.RunOutcome.{RunOutcome}
-use Rattle.cpu.specs.declared.runner.RunOutcome.the-variants as ended
+use Rattle.runner.specs.declared.runs.RunOutcome.{RunOutcome}
+use Rattle.runner.specs.declared.runs.RunOutcome.the-variants as ended
 use Rattle.cpu.specs.Step.{State, stepOf}
 
 -- one step further; a state whose step doesn't complete stays as it is
 abbrev pub nextState : State → State

@@ -1,7 +1,7 @@
 -- Each ending has its own.
 use borrow.Author.Needs.{needs}
-use Rattle.cpu.proofs.runner.run_outcome.Statement.{statement}
-use Rattle.cpu.proofs.runner.run_outcome.Tie as tie
+use Rattle.runner.proofs.runs.run_outcome.Statement.{statement}
+use Rattle.runner.proofs.runs.run_outcome.Tie as tie
 
 pub run-outcome-spec : {M : Type 1} → statement M
 run-outcome-spec =

@@ -1,16 +1,17 @@
-// A run: steps until a budget is spent.
-use super::executor::fetch_and_execute;
-use super::held::Control;
-use super::held::assemble;
-use super::held::control_of;
-use super::machine::Machine;
-use super::outcome::Outcome;
+// A run of a machine by value.
+use cpu::Control;
+use cpu::Machine;
+use cpu::Outcome;
+use cpu::assemble;
+use cpu::control_of;
+use cpu::fetch_and_execute;
 use refusals::Refusal;
 use refusals::refusal_of;
 use units::MEMORY_BYTES;
 ghost use mathlib.Core.Path.{_≡_};
-ghost use Rattle.cpu.specs.Run.{runResult, runOf};
-ghost use Rattle.cpu.specs.Held.{held, asRun};
+ghost use Rattle.runner.specs.Run.{runResult, runOf};
+ghost use Rattle.cpu.specs.Held.{held};
+ghost use Rattle.runner.specs.Ends.{asRun};
 
 // How a run ended: its budget was spent, or as its last step did.
 pub enum RunOutcome {

@@ -5,11 +5,11 @@ use Prim.Native.Nat.{_≤_, _-_}
 use lib.ListN.{length}
 use mathlib.Core.Path.{_≡_, sym, _∙_}
 use Rattle.units.specs.Address.{memoryBytes}
-use Rattle.cpu.specs.Run.{runFrom}
+use Rattle.runner.specs.Run.{runFrom}
 use Rattle.cpu.specs.Held.{held, Whole}
-use Rattle.cpu.proofs.Runs.{state, run-refused, run-starts, run-spent, run-ends, run-again}
-use Rattle.cpu.proofs.runner.run.Statement.{statement}
-use Rattle.cpu.proofs.runner.run.Tie as tie
+use Rattle.runner.proofs.Turns.{state, run-refused, run-starts, run-spent, run-ends, run-again}
+use Rattle.runner.proofs.runs.run.Statement.{statement}
+use Rattle.runner.proofs.runs.run.Tie as tie
 
 abbrev Inv-loop : tie.InvT-loop
 Inv-loop memory₀ budget regs₀ k₀ count₀ memory regs k count =
