@@ -154,7 +154,7 @@ uint32_t paw_step(struct paw_machine *machine, uint8_t *memory, size_t memory_le
 /*
  * Executes up to `budget` instructions, on this very machine and memory. Answers how the run
  * ended and how many steps were completed; the two functions below take the answer apart. A run
- * that completes its whole budget ends by PAW_OK, even if HALT or a stop is next.
+ * whose last step uses up the budget ends by PAW_OK, whatever the next instruction would do.
  */
 uint64_t paw_run(struct paw_machine *machine, uint8_t *memory, size_t memory_len, uint32_t budget);
 
@@ -182,8 +182,8 @@ uint64_t paw_check(const uint8_t *file, size_t len);
 uint64_t paw_verify(const uint8_t *file, size_t len);
 
 /*
- * Puts checks 1 to 14 to a memory and an image file. If all pass, copies the code to address 0,
- * clears the window and touches no other byte. Answers as paw_check.
+ * Puts checks 1 to 14 to a memory and an image file. If all pass, memory gets the code from its
+ * first byte on and zeros in the window; every other byte stays. Answers as paw_check.
  */
 uint64_t paw_load(const uint8_t *file, size_t len, uint8_t *memory, size_t memory_len);
 
@@ -193,7 +193,10 @@ static inline uint16_t paw_answer_number(uint64_t answer)
     return (uint16_t)answer;
 }
 
-/* Where a refusal was made: the block for numbers 3 to 7, the byte address for 9 to 14, else 0. */
+/*
+ * Where a refusal was made: numbers 3 to 7 name a block, 9 to 14 the address of an instruction, and
+ * the others no place, which is 0.
+ */
 static inline uint16_t paw_answer_place(uint64_t answer)
 {
     return (uint16_t)(answer >> 16);

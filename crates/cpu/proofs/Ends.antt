@@ -8,6 +8,7 @@ use lib.Seq.{getD-set-same, getD-set-other, set-set, set-comm}
 use Rattle.units.specs.Address.{wrap}
 use Rattle.cpu.specs.declared.status.Status.{Status}
 use Rattle.cpu.specs.declared.held.Control.{Control}
+use Rattle.cpu.specs.declared.machine.Machine.{Machine}
 use Rattle.cpu.specs.Machine.{Flags, machine, advanced, written}
 use Rattle.cpu.specs.Held.{flagsIn, control, Whole, Holds}
 
@@ -52,8 +53,12 @@ module _ (regs : List ℕ) (pc : ℕ) (whole : Whole regs) where
 pub set-again : (regs : List ℕ) (pc : ℕ) → set (set regs 15 pc) 15 pc ≡ set regs 15 pc
 set-again regs pc = set-set regs 15 pc pc
 
-pub set-whole : (regs : List ℕ) (pc : ℕ) → Whole regs → Whole (set regs 15 pc)
-set-whole regs pc whole = length-set regs 15 pc ∙ whole
+pub shown-whole : (regs shown : List ℕ) (pc : ℕ) → shown ≡ set regs 15 pc → Whole regs → Whole shown
+shown-whole regs shown pc is whole = rw is (length-set regs 15 pc ∙ whole)
+
+-- registers that are known
+pub held-as : (regs same : List ℕ) (k : Control) (m : Machine) → same ≡ regs → Holds regs k m → Holds same k m
+held-as regs same k m is holds = rw is holds
 
 -- flags that are known
 pub flags-as : (regs l : List ℕ) (k : Control) (s : Status) (f : Flags) → flagsIn s ≡ f → Holds regs k (machine l (flagsIn s))

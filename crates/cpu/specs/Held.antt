@@ -1,5 +1,5 @@
 -- How the code holds a machine while it works: registers in an array, and by value beside it the PC and the flags.
--- Only the contracts of private functions speak of it.
+-- Only contracts of functions that are no entry points speak of it.
 use mathlib.Core.Bool.{cond}
 use mathlib.Core.List.{List, [], _∷_}
 use mathlib.Core.Path.{_≡_}

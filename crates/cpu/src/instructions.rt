@@ -28,11 +28,19 @@ use units::halfword_at;
 use units::put_halfword;
 ghost use mathlib.Core.Path.{_≡_};
 ghost use Prim.Native.Nat.{_+_, _<_};
-ghost use lib.ListN.{getD, length};
+ghost use lib.ListN.{getD, length, set};
 ghost use Rattle.units.specs.Address.{wrap, memoryBytes};
 ghost use Rattle.units.specs.Field.{field};
 ghost use Rattle.cpu.specs.Step.{resulting, addHighOf, addPcOf, andOf, asrOf, cmpImmOf, cmpOf, cmpHighOf, eorOf, ldrOf, ldrbOf, movImmOf, movHighOf, negOf, strOf, strbOf, tstOf};
 ghost use Rattle.cpu.specs.Held.{held, branched, Whole, Holds, Leads};
+
+// Puts the PC where ADD, CMP and MOV find it when they name R15: the address of
+// the instruction itself.
+fn show_pc(regs: &mut [u16; 16], k: Control)
+    ensures { λ _. ⌜ now (regs .exit) ≡ set (now (regs .entry)) 15 (k .pc) ⌝ }
+{
+    regs[15] = k.pc;
+}
 
 // Ends an instruction with a result for one of R0 to R7 of which N and Z speak.
 fn leave(regs: &mut [u16; 16], k: Control, rd: u8, r: u16) -> Control
@@ -47,7 +55,7 @@ pub(crate) fn add_high(regs: &mut [u16; 16], k: Control, rs: u8, rd: u8) -> Cont
     requires { ⌜ Whole (now regs) × (rs < 16) × (rd < 16) ⌝ }
     ensures { λ r. ⌜ Holds (now (regs .exit)) r (addHighOf rs rd (held (now (regs .entry)) k)) ⌝ }
 {
-    regs[15] = k.pc;
+    show_pc(regs, k);
     let a = regs[rd as usize];
     let b = regs[rs as usize];
     let r = sum(a, b);
@@ -120,7 +128,7 @@ pub(crate) fn cmp_high(regs: &mut [u16; 16], k: Control, rs: u8, rd: u8) -> Cont
     requires { ⌜ Whole (now regs) × (rs < 16) × (rd < 16) ⌝ }
     ensures { λ r. ⌜ Holds (now (regs .exit)) r (cmpHighOf rs rd (held (now (regs .entry)) k)) ⌝ }
 {
-    regs[15] = k.pc;
+    show_pc(regs, k);
     let a = regs[rd as usize];
     let b = regs[rs as usize];
     advance(k.pc, compare(a, b))
@@ -180,7 +188,7 @@ pub(crate) fn mov_high(regs: &mut [u16; 16], k: Control, rs: u8, rd: u8) -> Cont
     requires { ⌜ Whole (now regs) × (rs < 16) × (rd < 16) ⌝ }
     ensures { λ r. ⌜ Holds (now (regs .exit)) r (movHighOf rs rd (held (now (regs .entry)) k)) ⌝ }
 {
-    regs[15] = k.pc;
+    show_pc(regs, k);
     let r = regs[rs as usize];
     write(regs, k.pc, rd, r, result_status(r, status_in(k)))
 }

@@ -32,7 +32,7 @@ abbrev pub mostBytes : ℕ
 mostBytes = blockBytes * mostBlocks
 
 abbrev pub mostCode : ℕ
-mostCode = 15936
+mostCode = blockCode * mostBlocks
 
 -- f i, f (i + 1), ..: n values
 unfoldable pub tabulateFrom : (ℕ → ℕ) → ℕ → ℕ → List ℕ

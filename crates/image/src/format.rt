@@ -22,4 +22,4 @@ pub const MOST_BLOCKS: usize = 64;
 
 pub const MOST_BYTES: usize = BLOCK_BYTES * MOST_BLOCKS;
 
-pub const MOST_CODE: usize = 15936;
+pub const MOST_CODE: usize = BLOCK_CODE * MOST_BLOCKS;

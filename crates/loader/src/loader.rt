@@ -31,9 +31,9 @@ fn place(file: &[u8], layout: Layout, memory: &mut [u8])
     clear_window(memory, start, end);
 }
 
-// Puts checks 1 to 14 to a file and a memory, and loads the program: its code
-// goes to address 0, its window is cleared, and no other byte changes. A refusal
-// changes nothing.
+// Puts check 1 to a memory and checks 2 to 14 to a file, and loads the program:
+// its code goes to address 0, its window is cleared, and no other byte changes. A
+// refusal changes nothing.
 pub fn load(file: &[u8], memory: &mut [u8]) -> Loaded
     ensures { λ r. ⌜ (r ≡ loadOf (now (file .entry)) (now (memory .entry))) × (now (memory .exit) ≡ memoryAfterLoad (now (file .entry)) (now (memory .entry))) ⌝ }
 {

@@ -13,9 +13,9 @@ ghost use Rattle.endings.specs.Endings.{numbered, numberedStep, numberedRun};
 pub extern "C" fn paw_step(m: &mut Machine, memory: &mut [u8]) -> u32
     ensures { λ r. ⌜ numbered (now (m .exit)) (now (memory .exit)) r ≡ numberedStep (stepOf (now (m .entry)) (now (memory .entry))) ⌝ }
 {
-    let out = endings::step_numbered(*m, memory);
-    *m = out.machine;
-    out.number
+    let stepped = endings::step_numbered(*m, memory);
+    *m = stepped.machine;
+    stepped.number
 }
 
 // Steps until `budget` of them are completed or one doesn't complete. The low 32
@@ -25,7 +25,7 @@ pub extern "C" fn paw_step(m: &mut Machine, memory: &mut [u8]) -> u32
 pub extern "C" fn paw_run(m: &mut Machine, memory: &mut [u8], budget: u32) -> u64
     ensures { λ r. ⌜ numbered (now (m .exit)) (now (memory .exit)) r ≡ numberedRun (runOf budget (now (m .entry)) (now (memory .entry))) ⌝ }
 {
-    let out = endings::run_numbered(*m, memory, budget);
-    *m = out.machine;
-    out.number
+    let ran = endings::run_numbered(*m, memory, budget);
+    *m = ran.machine;
+    ran.number
 }

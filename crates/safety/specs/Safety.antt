@@ -81,7 +81,7 @@ Demand3 =
     → (m : Machine) → Start m
     → (budget : ℕ) → SafeRun file layout m memory budget
 
--- every load that isn't refused leaves a memory that holds the code of a fit file: so a load and then a run is covered
+-- what a load leaves, if it isn't refused, is a memory that holds the code of a fit file: so a load and then a run is covered
 abbrev pub LoadHolds : Type 0
 LoadHolds =
     (file memory : List ℕ) → ((a : ℕ) → byteAt file a < 256) → ((a : ℕ) → byteAt memory a < 256)

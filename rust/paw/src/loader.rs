@@ -2,8 +2,8 @@
 
 use crate::{Layout, Refusal, ffi};
 
-/// Puts checks 1 to 14 to a memory and a file. If all pass, copies the code to address 0, clears
-/// the window and touches no other byte; a refusal changes no byte.
+/// Puts checks 1 to 14 to a memory and a file. If all pass, memory gets the code from its first
+/// byte on and zeros in the window, and every other byte stays; a refusal changes no byte.
 ///
 /// ```
 /// use paw::{Machine, Run, RunOutcome};

@@ -1,7 +1,7 @@
 //! Watches a run of an accepted program and reports the first thing it should not do.
 //!
-//! Every state is examined: the start, and the one after each completed step, the last included,
-//! even if the budget ends there.
+//! It looks at the machine before the first step and again behind each step that completes, also
+//! behind the one with which the budget runs out.
 
 use crate::cpu::{self, Machine, RunOutcome, RunResult, StepOutcome, MEMORY_BYTES, PC};
 use crate::image::halfword;

@@ -1,5 +1,5 @@
--- The PC is put in its place first; the sum and its flags are the definition's.
-use Rattle.cpu.proofs.Ends.{set-whole, set-again, flags-as}
+-- The PC is shown first; the sum and its flags are the definition's.
+use Rattle.cpu.proofs.Ends.{shown-whole, set-again, flags-as}
 use Rattle.cpu.specs.Step.{addHighOf}
 use borrow.Author.Needs.{needs}
 use Rattle.cpu.proofs.instructions.add_high.Statement.{statement}
@@ -8,8 +8,8 @@ use Rattle.cpu.proofs.instructions.add_high.Tie as tie
 returns : tie.Need-returns
 unfolding addHighOf
 returns c =
-    let m = c .before .before .before .before .before .before in
-    simp (c .before .before .before .sum .ensures, set-again (m .args .regs .now) (m .args .k .pc)) at
+    let m = c .before .before .before .before .before .before .before .before in
+    simp (c .before .before .before .sum .ensures, c .before .before .before .before .before .before .show-pc .ensures, set-again (m .args .regs .now) (m .args .k .pc)) at
     (flags-as _ _ _ (c .before .sum-status .result) _ (c .before .sum-status .ensures) (c .write .ensures))
 
 pub add-high-spec : {M : Type 1} → statement M
@@ -24,5 +24,5 @@ add-high-spec =
     (λ c. search needs)
     (λ c κs. search needs)
     (λ c κs. search needs)
-    (λ c κs. (set-whole (c .before .before .before .before .before .args .regs .now) (c .before .before .before .before .before .args .k .pc) (c .before .before .before .before .before .pre .0), search needs))
+    (λ c κs. (shown-whole (c .before .before .before .before .before .before .before .args .regs .now) _ (c .before .before .before .before .before .before .before .args .k .pc) (c .before .before .before .before .before .show-pc .ensures) (c .before .before .before .before .before .before .before .pre .0), search needs))
     returns)

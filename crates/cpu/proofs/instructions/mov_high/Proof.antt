@@ -1,5 +1,5 @@
--- The PC is put in its place first; the result is Rs, and N and Z are set from it.
-use Rattle.cpu.proofs.Ends.{set-whole, set-again, flags-as}
+-- The PC is shown first; the result is Rs, and N and Z are set from it.
+use Rattle.cpu.proofs.Ends.{shown-whole, set-again, flags-as}
 use Rattle.cpu.specs.Step.{movHighOf}
 use borrow.Author.Needs.{needs}
 use Rattle.cpu.proofs.instructions.mov_high.Statement.{statement}
@@ -8,8 +8,8 @@ use Rattle.cpu.proofs.instructions.mov_high.Tie as tie
 returns : tie.Need-returns
 unfolding movHighOf
 returns c =
-    let m = c .before .before .before .before .before in
-    simp (c .before .before .status-in .ensures, set-again (m .args .regs .now) (m .args .k .pc)) at
+    let m = c .before .before .before .before .before .before .before in
+    simp (c .before .before .status-in .ensures, c .before .before .before .before .before .show-pc .ensures, set-again (m .args .regs .now) (m .args .k .pc)) at
     (flags-as _ _ _ (c .before .result-status .result) _ (c .before .result-status .ensures) (c .write .ensures))
 
 pub mov-high-spec : {M : Type 1} → statement M
@@ -22,5 +22,5 @@ mov-high-spec =
     (λ c. search needs)
     (λ c κs. search needs)
     (λ c κs. search needs)
-    (λ c κs. (set-whole (c .before .before .before .before .args .regs .now) (c .before .before .before .before .args .k .pc) (c .before .before .before .before .pre .0), search needs))
+    (λ c κs. (shown-whole (c .before .before .before .before .before .before .args .regs .now) _ (c .before .before .before .before .before .before .args .k .pc) (c .before .before .before .before .show-pc .ensures) (c .before .before .before .before .before .before .pre .0), search needs))
     returns)
