@@ -15,6 +15,7 @@ use Rattle.verifier.specs.Questions.{check10, check11}
 use Rattle.verifier.specs.State.{State, value}
 use Rattle.cpu.specs.declared.machine.Machine.{Machine}
 use Rattle.cpu.specs.Machine.{reg}
+use Rattle.safety.specs.Touched.{InData}
 use Rattle.safety.specs.Safety.{InWindow, SafeAccess}
 use Rattle.safety.proofs.Registers.{HoldsBelow}
 use Rattle.isa_laws.proofs.Narrow.{Narrow}
@@ -96,3 +97,9 @@ access-safe s m layout i narrow holds fits c10 c11 = record { inside = inside; a
         let d : reg m base % 4 ≡ 0 = zeros-less (reg m base) 2 (value s base .zeros) z (h .zeros) in
         let f : offset % 4 ≡ 0 = formed i narrow .fours e in
         omega arith
+
+-- and then each byte of its data is in the window
+pub data-in-window : (layout : Layout) (m : Machine) (access : Access) → SafeAccess layout m access → (a : ℕ) → InData m access a → InWindow layout a 1
+data-in-window layout m access safe a d =
+    let p = safe .inside (omega (arith, d .from, d .below)) in
+    (omega (arith, p .0, d .from), omega (arith, p .1, d .below))
