@@ -20,21 +20,22 @@ use Rattle.safety.specs.Safety.{InWindow, SafeAccess}
 use Rattle.safety.proofs.Registers.{HoldsBelow}
 use Rattle.isa_laws.proofs.Narrow.{Narrow}
 
--- a base register is one of the sixteen, and a halfword's offset counts in fours
-record Formed (access : Access) : Type 0 where
-  base : access .base < 16
-  fours : access .size ≡ 2 → access .offset % 4 ≡ 0
+-- a base register is one of the sixteen, there are two bytes of data at most, and a halfword's offset counts in fours
+pub record Formed (access : Access) : Type 0 where
+  pub base : access .base < 16
+  pub size : access .size ≤ 2
+  pub fours : access .size ≡ 2 → access .offset % 4 ≡ 0
 
 none : {a : Access} → a .base ≡ 0 → a .size ≡ 0 → Formed a
-none {a} e z = record { base = omega arith; fours = λ t. absurd (omega arith) }
+none {a} e z = record { base = omega arith; size = omega arith; fours = λ t. absurd (omega arith) }
 
 halfword : (offset rb rd : ℕ) → rb < 8 → Formed (accessOf (Ldr offset rb rd))
-halfword offset rb rd h = record { base = omega arith; fours = λ t. omega arith }
+halfword offset rb rd h = record { base = omega arith; size = omega arith; fours = λ t. omega arith }
 
 byte : (offset rb rd : ℕ) → rb < 8 → Formed (accessOf (Ldrb offset rb rd))
-byte offset rb rd h = record { base = omega arith; fours = λ t. absurd (omega arith) }
+byte offset rb rd h = record { base = omega arith; size = omega arith; fours = λ t. absurd (omega arith) }
 
-formed : (i : Instruction) → Narrow i → Formed (accessOf i)
+pub formed : (i : Instruction) → Narrow i → Formed (accessOf i)
 formed (MovImm rd imm) h = none refl refl
 formed (CmpImm rd imm) h = none refl refl
 formed (And rs rd) h = none refl refl

@@ -1,8 +1,9 @@
 -- An instruction changes only its data, and what it does hangs on nothing else of memory. A step adds the halfword that it fetches.
 use mathlib.Core.Bool.{Bool, true, false, cond}
 use mathlib.Core.List.{List}
-use mathlib.Core.Path.{_≡_, refl, ap, ap₂, _∙_, subst}
-use Prim.Native.Nat.{ℕ, _+_, _*_, _/_, _%_}
+use mathlib.Core.Path.{_≡_, refl, sym, ap, ap₂, _∙_, subst}
+use Prim.Native.Nat.{ℕ, _+_, _*_, _/_, _%_, _≤_, _<_}
+use native.Mathlib.Decide.{ℕ-discrete}
 use native.Mathlib.Omega.{arith}
 use borrow.Author.Tests.{eqb-true}
 use lib.Dec.{eqb}
@@ -22,9 +23,24 @@ use Rattle.cpu.specs.declared.outcome.Outcome.{Outcome}
 use Rattle.cpu.specs.declared.outcome.Outcome.the-variants.{Refused}
 use Rattle.cpu.specs.Machine.{reg, pc, flags, machine, advanced, written}
 use Rattle.cpu.specs.Step.{StepResult, stepResult, completed, stopped, effectiveAddress, aligned, executeOf, executeDecoded, fetched, fetchAndExecute, stepOf, ldrOf, ldrbOf, strOf, strbOf}
+use Rattle.isa_laws.proofs.Narrow.{decoded-narrow}
 use Rattle.cpu_laws.proofs.Steps.{cond-keeps}
-use Rattle.safety.specs.Touched.{InData, Keeps, StepKeeps, Agrees, Alike, StepAlike}
+use Rattle.safety.specs.Touched.{InData, DataInMemory, Keeps, StepKeeps, Agrees, Alike, StepAlike}
+use Rattle.safety.proofs.Accesses.{formed}
 use Rattle.safety.proofs.Lists.{set-alike}
+
+-- ---- the data
+
+pub data-in-memory : DataInMemory
+unfolding fetched
+data-in-memory m memory a d = go (formed i (decoded-narrow (halfwordAt memory (pc m)) i (sym (d .defined))) .size) (ℕ-discrete (accessOf i .size) 2)
+  where
+    i : Instruction
+    i = d .instruction
+
+    go : accessOf i .size ≤ 2 → Dec (accessOf i .size ≡ 2) → a < memoryBytes
+    go small (yes e) = omega (arith, d .within .aligned e, d .within .below, e)
+    go small (no n) = omega (arith, d .within .below, small, n)
 
 -- ---- one memory
 

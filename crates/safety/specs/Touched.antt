@@ -4,6 +4,7 @@ use mathlib.Core.List.{List}
 use mathlib.Core.Path.{_≡_}
 use Prim.Native.Nat.{ℕ, _+_, _%_, _≤_, _<_}
 use lib.ListN.{length}
+use Rattle.units.specs.Address.{memoryBytes}
 use Rattle.units.specs.Bytes.{byteAt}
 use Rattle.isa.specs.declared.decoder.Decoded.the-variants.{Defined}
 use Rattle.isa.specs.declared.instruction.Instruction.{Instruction}
@@ -34,6 +35,10 @@ pub record Accesses (m : Machine) (memory : List ℕ) (a : ℕ) : Type 0 where
   pub instruction : Instruction
   pub defined : fetched m memory ≡ Defined instruction
   pub within : InData m (accessOf instruction) a
+
+-- the data of a step are bytes of memory: a halfword at a multiple of 4 never comes round from the last byte to the first
+abbrev pub DataInMemory : Type 0
+DataInMemory = (m : Machine) (memory : List ℕ) (a : ℕ) → Accesses m memory a → a < memoryBytes
 
 -- a step changes no byte but its data, and memory stays as long as it is
 pub record Keeps (m : Machine) (memory : List ℕ) (r : StepResult) : Type 0 where
