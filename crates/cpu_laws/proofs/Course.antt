@@ -1,7 +1,7 @@
 -- The course of a run, found step by step from its start; and what each of its steps keeps, the whole run keeps.
 use mathlib.Core.List.{List}
 use mathlib.Core.Logic.{_⊎_, inl, inr, ⊎-elim}
-use mathlib.Core.Path.{_≡_, refl, sym, ap, _∙_, subst, subst⁻¹}
+use mathlib.Core.Path.{_≡_, refl, sym, ap, _∙_, subst}
 use Prim.Native.Nat.{ℕ, zero, suc, _+_, _<_, _≤_}
 use native.Mathlib.Nat.{le-of-suc-le-suc, not-suc-le-zero}
 use native.Mathlib.Omega.{arith}
@@ -20,7 +20,7 @@ use Rattle.cpu_laws.specs.Course.{state, outcomeAt, EndsAs, Course, RunC
 use Rattle.cpu_laws.proofs.Steps.{step-whole}
 
 -- one step on from the first state, or from the last
-pub first-or-last : (k : ℕ) (s : State) → stateAfter k (nextState s) ≡ stateAfter (suc k) s
+first-or-last : (k : ℕ) (s : State) → stateAfter k (nextState s) ≡ stateAfter (suc k) s
 unfolding stateAfter
 first-or-last zero s = refl
 first-or-last (suc k) s = ap nextState (first-or-last k s)
@@ -107,7 +107,7 @@ run-course budget m memory right =
 
 -- what holds at the start, and after each step that completes from where it holds, holds at every state of the course
 module _ (P : State → Type 0) (kept : (s : State) → P s → outcomeAt s ≡ Completed → P (nextState s)) where
-  pub course-keeps : (budget : ℕ) (s : State) (r : RunResult) (steps : ℕ) → Course budget s r steps → P s → (k : ℕ) → k ≤ steps → P (stateAfter k s)
+  course-keeps : (budget : ℕ) (s : State) (r : RunResult) (steps : ℕ) → Course budget s r steps → P s → (k : ℕ) → k ≤ steps → P (stateAfter k s)
   unfolding stateAfter
   course-keeps budget s r steps course start zero l = start
   course-keeps budget s r steps course start (suc k) l =
@@ -117,9 +117,3 @@ module _ (P : State → Type 0) (kept : (s : State) → P s → outcomeAt s ≡ 
       → (k : ℕ) → k ≤ runOf budget m memory .count → P (stateAfter k (state m memory))
   run-keeps budget m memory right start =
       course-keeps budget (state m memory) (runOf budget m memory) (runOf budget m memory .count) (run-course budget m memory right) start
-
-  -- the last state among them
-  pub run-ends-in : (budget : ℕ) (m : Machine) (memory : List ℕ) → length memory ≡ memoryBytes → P (state m memory) → P (runOf budget m memory .state)
-  run-ends-in budget m memory right start =
-      let course = run-course budget m memory right in
-      subst⁻¹ (λ (s : State). P s) (course .last) (run-keeps budget m memory right start (runOf budget m memory .count) (omega arith))

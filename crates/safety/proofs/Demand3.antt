@@ -93,7 +93,7 @@ module _ (file : List ℕ) (layout : Layout) (fit : FitCode (codeOf file) layout
       ⊎-elim (λ x. (subst (λ (a : Outcome). EndsAs a o) (x .0) e, x .1)) (λ x. absurd (subst (λ (a : Outcome). EndsAs a o) (x .0) e))
       (next (codeOf file) layout memory fit (there memory h) s inv)
 
-  pub safe-run : (memory : List ℕ) → HoldsCode file layout memory → (m : Machine) → Start m → (budget : ℕ) → SafeRun file layout m memory budget
+  safe-run : (memory : List ℕ) → HoldsCode file layout memory → (m : Machine) → Start m → (budget : ℕ) → SafeRun file layout m memory budget
   safe-run memory h m s budget =
       let start : State = state m memory in
       let result : RunResult = runOf budget m memory in

@@ -1,4 +1,5 @@
 -- P is fit, its image is bytes, and zeros are bytes.
+use mathlib.Core.Bool.{false}
 use mathlib.Core.List.{List}
 use Prim.Native.Nat.{ℕ, _≤_, _<_}
 use native.Mathlib.Decide.{decLt}
@@ -15,7 +16,6 @@ use Rattle.table_laws.specs.Table.{nzcv}
 use Rattle.safety.specs.Instance.{imageP, layoutP, memoryP, InstanceP}
 use Rattle.safety.proofs.Loads.{loaded-holds}
 use Rattle.safety.proofs.Demand3.{demand-3}
-use mathlib.Core.Bool.{false}
 
 -- a list of so many numbers below 256 that a test computes is bytes throughout
 all-bytes : (l : List ℕ) → T (every (λ a. ltb (getD l a 0) 256) (length l)) → (a : ℕ) → getD l a 0 < 256

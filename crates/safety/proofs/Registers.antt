@@ -30,7 +30,7 @@ set-holds n s regs d x v hd hs hr h hv r hl = go (ℕ-discrete r d)
     go (no q) = rw (getD-set-other s d r v unknownOf q, getD-set-other regs d r x 0 q) (h r hl)
 
 -- R15 is set, of which the values below it say nothing
-pub pc-holds : (s : State) (regs : List ℕ) (x : ℕ) → HoldsBelow 15 s regs → HoldsBelow 15 s (set regs 15 x)
+pc-holds : (s : State) (regs : List ℕ) (x : ℕ) → HoldsBelow 15 s regs → HoldsBelow 15 s (set regs 15 x)
 pc-holds s regs x h r hl = let q : r ≡ 15 → ⊥ = omega arith in rw (getD-set-other regs 15 r x 0 q) (h r hl)
 
 -- ---- what a step does to the registers
