@@ -1,5 +1,4 @@
 -- P is fit, its image is bytes, and zeros are bytes.
-use mathlib.Core.Bool.{false}
 use mathlib.Core.List.{List}
 use Prim.Native.Nat.{ℕ, _≤_, _<_}
 use native.Mathlib.Decide.{decLt}
@@ -12,7 +11,6 @@ use Rattle.image.specs.Block.{sumBelow}
 use Rattle.image.specs.Format.{tabulateFrom}
 use Rattle.packer.specs.Pack.{bodyHalfword, balanceOf, imageHalfword, imageOf}
 use Rattle.table_laws.proofs.Table.{starred-rows}
-use Rattle.table_laws.specs.Table.{nzcv}
 use Rattle.safety.specs.Instance.{imageP, layoutP, memoryP, InstanceP}
 use Rattle.safety.proofs.Loads.{loaded-holds}
 use Rattle.safety.proofs.Demand3.{demand-3}
@@ -40,5 +38,5 @@ zero-bytes a = go (decLt a 65536)
 
 pub instance-p : InstanceP
 instance-p m s budget =
-    demand-3 imageP layoutP (starred-rows (nzcv false false false false) .p-256) memoryP
+    demand-3 imageP layoutP (starred-rows .p-256) memoryP
     (loaded-holds imageP (replicate 65536 0) image-bytes zero-bytes layoutP (omega arith)) m s budget

@@ -29,7 +29,6 @@ nzcv n z c v = record { n = n; z = z; c = c; v = v }
 -- a memory in which the PC stands on the halfword h; its other bytes are any
 pub record StandsOn (h : ℕ) (m : Machine) (memory : List ℕ) : Type 0 where
   pub size : length memory ≡ memoryBytes
-  pub even : pc m % 2 ≡ 0
   pub there : halfwordAt memory (pc m) ≡ h
 
 -- a step on h completes, makes one machine of the other, and leaves memory alone
@@ -38,7 +37,7 @@ Gives h before after = (memory : List ℕ) → StandsOn h before memory → step
 
 -- a step on h, whatever the machine, ends so and changes nothing
 abbrev pub Stays : ℕ → Outcome → Type 0
-Stays h outcome = (m : Machine) (memory : List ℕ) → StandsOn h m memory → stepOf m memory ≡ stepResult m memory outcome
+Stays h outcome = (m : Machine) (memory : List ℕ) → pc m % 2 ≡ 0 → StandsOn h m memory → stepOf m memory ≡ stepResult m memory outcome
 
 -- h is no instruction, and a step on it is stop 19
 abbrev pub NoInstruction : ℕ → Type 0
@@ -49,19 +48,19 @@ abbrev pub codeP : ℕ → List ℕ
 codeP first = first ∷ 0x4008 ∷ 0x2280 ∷ 0x4412 ∷ 0x4410 ∷ 0x6001 ∷ 0x0000 ∷ []
 
 -- the instructions' rows hold with any flags before: NEG R0, R1 is 0x4108, CMP R0, #1 is 0x2801, ADD R0, R1 is 0x4408, ASR R0, R1 is 0x4088
-pub record StarredRows (f : Flags) : Type 0 where
+pub record StarredRows : Type 0 where
   pub row-0000 : (decodeOf 0x0000 ≡ Defined Halt) × Stays 0x0000 Halted
   pub row-0001 : NoInstruction 0x0001
   pub row-4500 : NoInstruction 0x4500
   pub row-4540 : decodeOf 0x4540 ≡ Defined (CmpHigh 8 0)
   pub row-DE00 : NoInstruction 0xDE00
-  pub neg-8000 : Gives 0x4108 (machineWith 0 0x8000 0 f) (machineWith 0x8000 0x8000 2 (nzcv true false false true))
-  pub neg-0 : Gives 0x4108 (machineWith 5 0 0 f) (machineWith 0 0 2 (nzcv false true true false))
-  pub cmp-8000-1 : Gives 0x2801 (machineWith 0x8000 0 0 f) (machineWith 0x8000 0 2 (nzcv false false true true))
-  pub add-FFFF-1 : Gives 0x4408 (machineWith 0xFFFF 1 0 f) (machineWith 0 1 2 (nzcv false true true false))
-  pub asr-by-16 : Gives 0x4088 (machineWith 0x8000 16 0 f) (machineWith 0xFFFF 16 2 (nzcv true false true (f .v)))
-  pub asr-by-0100 : Gives 0x4088 (machineWith 0x8000 0x0100 0 f) (machineWith 0x8000 0x0100 2 (nzcv true false (f .c) (f .v)))
-  pub row-A001 : Gives 0xA001 (machineWith 0 0 6 f) (machineWith 8 0 8 f)
+  pub neg-8000 : (f : Flags) → Gives 0x4108 (machineWith 0 0x8000 0 f) (machineWith 0x8000 0x8000 2 (nzcv true false false true))
+  pub neg-0 : (f : Flags) → Gives 0x4108 (machineWith 5 0 0 f) (machineWith 0 0 2 (nzcv false true true false))
+  pub cmp-8000-1 : (f : Flags) → Gives 0x2801 (machineWith 0x8000 0 0 f) (machineWith 0x8000 0 2 (nzcv false false true true))
+  pub add-FFFF-1 : (f : Flags) → Gives 0x4408 (machineWith 0xFFFF 1 0 f) (machineWith 0 1 2 (nzcv false true true false))
+  pub asr-by-16 : (f : Flags) → Gives 0x4088 (machineWith 0x8000 16 0 f) (machineWith 0xFFFF 16 2 (nzcv true false true (f .v)))
+  pub asr-by-0100 : (f : Flags) → Gives 0x4088 (machineWith 0x8000 0x0100 0 f) (machineWith 0x8000 0x0100 2 (nzcv true false (f .c) (f .v)))
+  pub row-A001 : (f : Flags) → Gives 0xA001 (machineWith 0 0 6 f) (machineWith 8 0 8 f)
   pub p-256 : verifyOf (imageOf (codeP 0x21FC) 256 256) ≡ Fit (record { «code_bytes» = 14; «window_start» = 256; «window_length» = 256 })
   pub p-252 : verifyOf (imageOf (codeP 0x21FC) 256 252) ≡ Refused (refusalAt 10 10)
   pub p-21FD : verifyOf (imageOf (codeP 0x21FD) 256 256) ≡ Refused (refusalAt 11 10)
