@@ -76,7 +76,7 @@ module _ (m : Machine) (memory : List ℕ) where
                 ∙ getD-set-other memory a b (x % 256) 0
                 (λ q. out (record { aligned = λ s. d; from = omega (arith, q); below = omega (arith, q) }));
           }
-      go false e = record { size = refl; others = λ a out. refl }
+      go false e = same
 
   ldr-kept : (offset rb rd : ℕ) → Leaves (halfwordAccess offset rb) (ldrOf offset rb rd m memory)
   unfolding ldrOf
@@ -165,7 +165,7 @@ module _ (m : Machine) (memory other : List ℕ) (long : length memory ≡ lengt
             bytes = λ b h. set-alike (withByte memory a x) (withByte other a x) (a + 1) (x / 256) b (simp length-set long)
                 (set-alike memory other a (x % 256) b long h);
           }
-      go false = record { machine = refl; outcome = refl; bytes = λ a h. h }
+      go false = alone _ _
 
   ldr-alike : (offset rb rd : ℕ) → SameData (halfwordAccess offset rb) → Alike memory other (ldrOf offset rb rd m memory) (ldrOf offset rb rd m other)
   unfolding ldrOf
@@ -181,7 +181,7 @@ module _ (m : Machine) (memory other : List ℕ) (long : length memory ≡ lengt
           (ap₂ (λ (x y : ℕ). x + y * 256)
           (agree a (record { aligned = λ s. d; from = omega arith; below = omega arith }))
           (agree (a + 1) (record { aligned = λ s. d; from = omega arith; below = omega arith })))
-      go false e = record { machine = refl; outcome = refl; bytes = λ a h. h }
+      go false e = alone _ _
 
   pub execute-alike : (i : Instruction) → SameData (accessOf i) → Alike memory other (executeOf i m memory) (executeOf i m other)
   unfolding executeOf strbOf ldrbOf
