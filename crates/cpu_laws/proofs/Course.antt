@@ -1,8 +1,7 @@
--- The course of a run: its states are those that single steps lead to, all but the last of them by steps that complete, and it ends as the
--- step at the last state would, or with its budget spent.
+-- The course of a run, found step by step from its start; and what each of its steps keeps, the whole run keeps.
 use mathlib.Core.List.{List}
 use mathlib.Core.Logic.{_⊎_, inl, inr, ⊎-elim}
-use mathlib.Core.Path.{_≡_, refl, sym, ap, _∙_, subst, subst⁻¹}
+use mathlib.Core.Path.{_≡_, refl, sym, ap, _∙_, subst}
 use Prim.Native.Nat.{ℕ, zero, suc, _+_, _<_, _≤_}
 use native.Mathlib.Nat.{le-of-suc-le-suc, not-suc-le-zero}
 use native.Mathlib.Omega.{arith}
@@ -15,30 +14,13 @@ use Rattle.cpu.specs.declared.outcome.Outcome.{Outcome}
 use Rattle.cpu.specs.declared.outcome.Outcome.the-variants.{Completed, Halted, Stopped, Refused}
 use Rattle.runner.specs.declared.runs.RunOutcome.{RunOutcome}
 use Rattle.runner.specs.declared.runs.RunOutcome.the-variants as run
-use Rattle.cpu.specs.Step.{State, stepOf}
+use Rattle.cpu.specs.Step.{State}
 use Rattle.runner.specs.Run.{RunResult, nextState, stateAfter, goOn, runFrom, runOf}
-use Rattle.cpu_laws.proofs.Steps.{state, step-whole}
-
--- how the step at a state ends
-abbrev pub outcomeAt : State → Outcome
-outcomeAt s = stepOf (s .machine) (s .memory) .outcome
-
--- a step that ends so, and doesn't complete, ends the run so
-abbrev pub EndsAs : Outcome → RunOutcome → Type 0
-EndsAs Completed r = ⊥
-EndsAs Halted r = r ≡ run.Halted
-EndsAs (Stopped number) r = r ≡ run.Stopped number
-EndsAs (Refused q) r = r ≡ run.Refused q
-
--- the course of `steps` steps from s, with a budget, to a result
-pub record Course (budget : ℕ) (s : State) (r : RunResult) (steps : ℕ) : Type 0 where
-  pub within : steps ≤ budget
-  pub last : r .state ≡ stateAfter steps s
-  pub completed : (k : ℕ) → k < steps → outcomeAt (stateAfter k s) ≡ Completed
-  pub end : ((r .outcome ≡ run.Spent) × (steps ≡ budget)) ⊎ ((steps < budget) × EndsAs (outcomeAt (stateAfter steps s)) (r .outcome))
+use Rattle.cpu_laws.specs.Course.{state, outcomeAt, EndsAs, Course, RunCourse}
+use Rattle.cpu_laws.proofs.Steps.{step-whole}
 
 -- one step on from the first state, or from the last
-pub first-or-last : (k : ℕ) (s : State) → stateAfter k (nextState s) ≡ stateAfter (suc k) s
+first-or-last : (k : ℕ) (s : State) → stateAfter k (nextState s) ≡ stateAfter (suc k) s
 unfolding stateAfter
 first-or-last zero s = refl
 first-or-last (suc k) s = ap nextState (first-or-last k s)
@@ -80,9 +62,9 @@ more budget count s r e (steps, counted, course) = (
         subst (λ (t : State). outcomeAt t ≡ Completed) (first-or-last k s) (course .completed k (le-of-suc-le-suc l))
 
 still : (s : State) (o : Outcome) → outcomeAt s ≡ o → (o ≡ Completed → ⊥) → nextState s ≡ s
-still s o e other = ⊎-elim (λ q. absurd (other (sym e ∙ q))) (λ q. q) (step-whole (s .machine) (s .memory))
+still s o e other = ⊎-elim (λ q. absurd (other (sym e ∙ q))) (λ q. q) (step-whole s)
 
-halted-other : Halted ≡ Completed → ⊥
+pub halted-other : Halted ≡ Completed → ⊥
 halted-other e = let z : _≡_ {A = ℕ} 0 1 = cc in omega arith
 
 stopped-other : (number : ℕ) → Stopped number ≡ Completed → ⊥
@@ -116,9 +98,7 @@ from zero count s = (
 from (suc budget) count s =
     turn budget count s (outcomeAt s) (runFrom budget (count + 1) (nextState s)) refl (from budget (count + 1) (nextState s))
 
--- the course of a run with a memory of the right size takes as many steps as the run counts
-pub run-course : (budget : ℕ) (m : Machine) (memory : List ℕ) → length memory ≡ memoryBytes
-    → Course budget (state m memory) (runOf budget m memory) (runOf budget m memory .count)
+pub run-course : RunCourse
 unfolding Found runOf
 run-course budget m memory right =
     let found = from budget 0 (state m memory) in
@@ -127,7 +107,7 @@ run-course budget m memory right =
 
 -- what holds at the start, and after each step that completes from where it holds, holds at every state of the course
 module _ (P : State → Type 0) (kept : (s : State) → P s → outcomeAt s ≡ Completed → P (nextState s)) where
-  pub course-keeps : (budget : ℕ) (s : State) (r : RunResult) (steps : ℕ) → Course budget s r steps → P s → (k : ℕ) → k ≤ steps → P (stateAfter k s)
+  course-keeps : (budget : ℕ) (s : State) (r : RunResult) (steps : ℕ) → Course budget s r steps → P s → (k : ℕ) → k ≤ steps → P (stateAfter k s)
   unfolding stateAfter
   course-keeps budget s r steps course start zero l = start
   course-keeps budget s r steps course start (suc k) l =
@@ -137,9 +117,3 @@ module _ (P : State → Type 0) (kept : (s : State) → P s → outcomeAt s ≡ 
       → (k : ℕ) → k ≤ runOf budget m memory .count → P (stateAfter k (state m memory))
   run-keeps budget m memory right start =
       course-keeps budget (state m memory) (runOf budget m memory) (runOf budget m memory .count) (run-course budget m memory right) start
-
-  -- the last state among them
-  pub run-ends-in : (budget : ℕ) (m : Machine) (memory : List ℕ) → length memory ≡ memoryBytes → P (state m memory) → P (runOf budget m memory .state)
-  run-ends-in budget m memory right start =
-      let course = run-course budget m memory right in
-      subst⁻¹ (λ (s : State). P s) (course .last) (run-keeps budget m memory right start (runOf budget m memory .count) (omega arith))

@@ -2,4 +2,3 @@ pub mod Steps
 pub mod Course
 pub mod Sizes
 pub mod Overflow
-pub mod Examples

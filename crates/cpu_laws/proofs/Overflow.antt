@@ -1,20 +1,11 @@
--- V says that a signed result doesn't fit: a signed number is told by itself plus 32,768, so that there is no need of negative numbers.
-use mathlib.Core.Bool.{Bool, true, false, not, _&&_}
+-- V, by the signs of the operands and of the result.
+use mathlib.Core.Bool.{Bool, true, false, not}
 use mathlib.Core.Path.{_≡_, refl}
 use Prim.Native.Nat.{ℕ, _+_, _<_, _≤_}
 use native.Mathlib.Omega.{arith}
-use lib.Dec.{leb, ltb}
 use borrow.Author.Tests.{leb-true, leb-false, le-leb, lt-leb, lt-ltb, le-ltb}
-use Rattle.units.specs.Address.{wrap}
 use Rattle.cpu.specs.Alu.{negative, sumOf, sumFlags, differenceOf, differenceFlags}
-
--- the signed number x, plus 32,768
-abbrev pub raised : ℕ → ℕ
-raised x = wrap (x + 32768)
-
--- a raised number from 0 to 65,535, given as p less q
-abbrev pub fits : ℕ → ℕ → Bool
-fits p q = leb q p && ltb p (q + 65536)
+use Rattle.cpu_laws.specs.Overflow.{raised, fits, SumOverflows, DifferenceOverflows}
 
 fits-so : (p q : ℕ) → q ≤ p → p < q + 65536 → fits p q ≡ true
 fits-so p q l h = simp (le-leb q p l, lt-ltb p (q + 65536) h)
@@ -26,8 +17,8 @@ too-high : (p q : ℕ) → q + 65536 ≤ p → fits p q ≡ false
 too-high p q l = let m : q ≤ p = omega arith in simp (le-leb q p m, le-ltb p (q + 65536) l)
 
 module _ (a b : ℕ) (la : a < 65536) (lb : b < 65536) where
-  pub sum-overflows : sumFlags a b .v ≡ not (fits (raised a + raised b) 32768)
-  sum-overflows = go (negative a) (negative b) (negative (sumOf a b)) refl refl refl
+  sum-v : sumFlags a b .v ≡ not (fits (raised a + raised b) 32768)
+  sum-v = go (negative a) (negative b) (negative (sumOf a b)) refl refl refl
     where
       go : (s t u : Bool) → negative a ≡ s → negative b ≡ t → negative (sumOf a b) ≡ u → sumFlags a b .v ≡ not (fits (raised a + raised b) 32768)
       go true true true e f g =
@@ -55,8 +46,8 @@ module _ (a b : ℕ) (la : a < 65536) (lb : b < 65536) where
           let p : a < 32768 = leb-false 32768 a e in let q : b < 32768 = leb-false 32768 b f in let r : sumOf a b < 32768 = leb-false 32768 (sumOf a b) g in
           simp (e, f, g, fits-so (raised a + raised b) 32768 (omega arith) (omega arith))
 
-  pub difference-overflows : differenceFlags a b .v ≡ not (fits (raised a + 32768) (raised b))
-  difference-overflows = go (negative a) (negative b) (negative (differenceOf a b)) refl refl refl
+  difference-v : differenceFlags a b .v ≡ not (fits (raised a + 32768) (raised b))
+  difference-v = go (negative a) (negative b) (negative (differenceOf a b)) refl refl refl
     where
       go : (s t u : Bool) → negative a ≡ s → negative b ≡ t → negative (differenceOf a b) ≡ u → differenceFlags a b .v ≡ not (fits (raised a + 32768) (raised b))
       go true true true e f g =
@@ -83,3 +74,9 @@ module _ (a b : ℕ) (la : a < 65536) (lb : b < 65536) where
       go false false false e f g =
           let p : a < 32768 = leb-false 32768 a e in let q : b < 32768 = leb-false 32768 b f in let r : differenceOf a b < 32768 = leb-false 32768 (differenceOf a b) g in
           simp (e, f, g, fits-so (raised a + 32768) (raised b) (omega arith) (omega arith))
+
+pub sum-overflows : SumOverflows
+sum-overflows = sum-v
+
+pub difference-overflows : DifferenceOverflows
+difference-overflows = difference-v

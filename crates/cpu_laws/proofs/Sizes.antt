@@ -22,13 +22,11 @@ use Rattle.cpu.specs.Alu.{negative, shiftedOf, shiftOf, conditionOf}
 use Rattle.cpu.specs.Step.{State, StepResult, stepResult, completed, stopped, effectiveAddress, aligned, addHighOf, addPcOf, andOf, asrOf, branchOf, cmpImmOf, cmpOf, cmpHighOf, eorOf, ldrOf, ldrbOf, movImmOf, movHighOf, negOf, strOf, strbOf, tstOf, executeOf, executeDecoded, fetched, fetchAndExecute, stepOf}
 use Rattle.runner.specs.Run.{nextState, stateAfter}
 use Rattle.isa_laws.proofs.Narrow.{Narrow, decoded-narrow}
-use Rattle.cpu_laws.proofs.Steps.{cond-keeps, state}
+use Rattle.cpu_laws.specs.Course.{state}
+use Rattle.cpu_laws.specs.Sizes.{Row, Registers, Bytes, Sized, StatesSized}
+use Rattle.cpu_laws.proofs.Steps.{cond-keeps}
 
--- n numbers below a bound
-pub record Row (n bound : ℕ) (xs : List ℕ) : Type 0 where
-  pub count : length xs ≡ n
-  pub below : (i : ℕ) → getD xs i 0 < bound
-
+-- a bound on every number stays where one below it is set
 set-below : (bound : ℕ) (xs : List ℕ) (i x : ℕ) → x < bound → ((j : ℕ) → getD xs j 0 < bound) → (j : ℕ) → getD (set xs i x) j 0 < bound
 set-below bound [] i x l h j = h j
 set-below bound (y ∷ ys) zero x l h zero = l
@@ -38,18 +36,6 @@ set-below bound (y ∷ ys) (suc i) x l h (suc j) = set-below bound ys i x l (λ 
 
 row-set : {n bound : ℕ} (xs : List ℕ) (i x : ℕ) → Row n bound xs → x < bound → Row n bound (set xs i x)
 row-set {bound = bound} xs i x row l = record { count = length-set xs i x ∙ row .count; below = set-below bound xs i x l (row .below) }
-
--- sixteen registers
-abbrev pub Registers : List ℕ → Type 0
-Registers regs = Row 16 65536 regs
-
--- all of memory
-abbrev pub Bytes : List ℕ → Type 0
-Bytes memory = Row memoryBytes 256 memory
-
-pub record Sized (s : State) : Type 0 where
-  pub registers : Registers (s .machine .regs)
-  pub bytes : Bytes (s .memory)
 
 advanced-sized : (regs : List ℕ) → Registers regs → Registers (advanced regs)
 advanced-sized regs r = row-set regs 15 _ r (omega arith)
@@ -64,13 +50,13 @@ shifted-small : (a k : ℕ) → a < 65536 → shiftedOf a k < 65536
 shifted-small a k l =
     cond-keeps Small (negative a) (65535 - (65535 - a) / 2 ^ k) (a / 2 ^ k) (omega arith) (omega (arith, div-le-self a (2 ^ k)))
 
-shift-small : (a k : ℕ) → a < 65536 → shiftOf a k < 65536
+pub shift-small : (a k : ℕ) → a < 65536 → shiftOf a k < 65536
 shift-small a k l =
     cond-keeps Small (eqb k 0) a (cond (ltb k 16) (shiftedOf a k) (cond (negative a) 65535 0)) l
     (cond-keeps Small (ltb k 16) (shiftedOf a k) (cond (negative a) 65535 0) (shifted-small a k l)
     (cond-keeps Small (negative a) 65535 0 (omega arith) (omega arith)))
 
-halfword-small : (memory : List ℕ) (a : ℕ) → Bytes memory → halfwordAt memory a < 65536
+pub halfword-small : (memory : List ℕ) (a : ℕ) → Bytes memory → halfwordAt memory a < 65536
 halfword-small memory a b = omega (arith, b .below a, b .below (a + 1))
 
 byte-sized : (memory : List ℕ) (a x : ℕ) → Bytes memory → Bytes (withByte memory a x)
@@ -159,7 +145,7 @@ pub step-sized : (s : State) → Sized s → Sized (nextState s)
 step-sized s sized = result-sized (s .machine) (s .memory) (sized .registers) (sized .bytes)
 
 -- and over any number of them
-pub states-sized : (s : State) → Sized s → (k : ℕ) → Sized (stateAfter k s)
+pub states-sized : StatesSized
 unfolding stateAfter
 states-sized s sized zero = sized
 states-sized s sized (suc k) = step-sized (stateAfter k s) (states-sized s sized k)

@@ -1,9 +1,10 @@
--- A step that doesn't complete leaves everything as it was.
+-- A step that doesn't complete leaves everything as it was; and what a step does where nothing stops it before the instruction.
 use mathlib.Core.Bool.{Bool, true, false, cond}
 use mathlib.Core.List.{List}
 use mathlib.Core.Logic.{_⊎_, inl, inr}
 use mathlib.Core.Path.{_≡_, refl}
 use Prim.Native.Nat.{ℕ, _*_, _%_}
+use borrow.Author.Tests.{eq-eqb}
 use lib.Dec.{eqb}
 use lib.ListN.{length}
 use Rattle.units.specs.Address.{memoryBytes}
@@ -16,15 +17,13 @@ use Rattle.isa.specs.declared.instruction.Instruction.the-variants.{MovImm, Cmp
 use Rattle.cpu.specs.declared.machine.Machine.{Machine}
 use Rattle.cpu.specs.declared.outcome.Outcome.the-variants.{Completed, Refused}
 use Rattle.cpu.specs.Machine.{pc, flags, machine, advanced, written, reg}
-use Rattle.cpu.specs.Step.{State, StepResult, stepResult, completed, stopped, effectiveAddress, aligned, ldrOf, strOf, strbOf, executeOf, executeDecoded, fetched, fetchAndExecute, stepOf}
+use Rattle.cpu.specs.Step.{StepResult, stepResult, completed, stopped, effectiveAddress, aligned, ldrOf, strOf, strbOf, executeOf, executeDecoded, fetched, fetchAndExecute, stepOf}
+use Rattle.cpu_laws.specs.Course.{state, StepWhole}
 
 -- what holds of both arms of a test holds of the test's
 pub cond-keeps : {A : Type 0} (Q : A → Type 0) (test : Bool) (x y : A) → Q x → Q y → Q (cond test x y)
 cond-keeps Q true x y p q = p
 cond-keeps Q false x y p q = q
-
-abbrev pub state : Machine → List ℕ → State
-state m memory = record { machine = m; memory = memory }
 
 abbrev Whole : Machine → List ℕ → StepResult → Type 0
 Whole m memory r = (r .outcome ≡ Completed) ⊎ (r .state ≡ state m memory)
@@ -60,10 +59,18 @@ decoded-whole : (d : Decoded) (m : Machine) (memory : List ℕ) → Whole m memo
 decoded-whole (Defined i) m memory = execute-whole i m memory
 decoded-whole Undefined m memory = inr refl
 
-pub step-whole : (m : Machine) (memory : List ℕ) → (stepOf m memory .outcome ≡ Completed) ⊎ (stepOf m memory .state ≡ state m memory)
+pub step-whole : StepWhole
 unfolding stepOf fetchAndExecute
-step-whole m memory =
+step-whole s =
+    let m = s .machine in
+    let memory = s .memory in
     cond-keeps (Whole m memory) (eqb (length memory) memoryBytes) (fetchAndExecute m memory) (stepResult m memory (Refused (refusal 1)))
     (cond-keeps (Whole m memory) (eqb (pc m % 2) 0) (executeDecoded (fetched m memory) m memory) (stopped 18 m memory)
     (decoded-whole (fetched m memory) m memory) (inr refl))
     (inr refl)
+
+-- a step from an even PC in a memory of the right size does what the halfword there says
+pub step-decoded : (m : Machine) (memory : List ℕ) (d : Decoded) → length memory ≡ memoryBytes → pc m % 2 ≡ 0 → fetched m memory ≡ d
+    → stepOf m memory ≡ executeDecoded d m memory
+unfolding stepOf fetchAndExecute
+step-decoded m memory d right even says = simp (eq-eqb (length memory) memoryBytes right, eq-eqb (pc m % 2) 0 even, says)

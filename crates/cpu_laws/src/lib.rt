@@ -1,2 +1,2 @@
-// What follows from the definitions of a step and a run: laws for theorems
-// about whole runs, and worked examples. There is no code here.
+// No code: what follows from the definitions of a step and a run. The claims
+// are in specs/, their proofs in proofs/.

@@ -15,25 +15,27 @@ use Rattle.verifier.specs.Questions.{check10, check11}
 use Rattle.verifier.specs.State.{State, value}
 use Rattle.cpu.specs.declared.machine.Machine.{Machine}
 use Rattle.cpu.specs.Machine.{reg}
+use Rattle.safety.specs.Touched.{InData}
 use Rattle.safety.specs.Safety.{InWindow, SafeAccess}
 use Rattle.safety.proofs.Registers.{HoldsBelow}
 use Rattle.isa_laws.proofs.Narrow.{Narrow}
 
--- a base register is one of the sixteen, and a halfword's offset counts in fours
-record Formed (access : Access) : Type 0 where
-  base : access .base < 16
-  fours : access .size ≡ 2 → access .offset % 4 ≡ 0
+-- a base register is one of the sixteen, there are two bytes of data at most, and a halfword's offset counts in fours
+pub record Formed (access : Access) : Type 0 where
+  pub base : access .base < 16
+  pub size : access .size ≤ 2
+  pub fours : access .size ≡ 2 → access .offset % 4 ≡ 0
 
 none : {a : Access} → a .base ≡ 0 → a .size ≡ 0 → Formed a
-none {a} e z = record { base = omega arith; fours = λ t. absurd (omega arith) }
+none {a} e z = record { base = omega arith; size = omega arith; fours = λ t. absurd (omega arith) }
 
 halfword : (offset rb rd : ℕ) → rb < 8 → Formed (accessOf (Ldr offset rb rd))
-halfword offset rb rd h = record { base = omega arith; fours = λ t. omega arith }
+halfword offset rb rd h = record { base = omega arith; size = omega arith; fours = λ t. omega arith }
 
 byte : (offset rb rd : ℕ) → rb < 8 → Formed (accessOf (Ldrb offset rb rd))
-byte offset rb rd h = record { base = omega arith; fours = λ t. absurd (omega arith) }
+byte offset rb rd h = record { base = omega arith; size = omega arith; fours = λ t. absurd (omega arith) }
 
-formed : (i : Instruction) → Narrow i → Formed (accessOf i)
+pub formed : (i : Instruction) → Narrow i → Formed (accessOf i)
 formed (MovImm rd imm) h = none refl refl
 formed (CmpImm rd imm) h = none refl refl
 formed (And rs rd) h = none refl refl
@@ -96,3 +98,9 @@ access-safe s m layout i narrow holds fits c10 c11 = record { inside = inside; a
         let d : reg m base % 4 ≡ 0 = zeros-less (reg m base) 2 (value s base .zeros) z (h .zeros) in
         let f : offset % 4 ≡ 0 = formed i narrow .fours e in
         omega arith
+
+-- and then each byte of its data is in the window
+pub data-in-window : (layout : Layout) (m : Machine) (access : Access) → SafeAccess layout m access → (a : ℕ) → InData m access a → InWindow layout a 1
+data-in-window layout m access safe a d =
+    let p = safe .inside (omega (arith, d .from, d .below)) in
+    (omega (arith, p .0, d .from), omega (arith, p .1, d .below))

@@ -1,34 +1,36 @@
 -- Demand 3, proved.
 use mathlib.Core.List.{List}
 use mathlib.Core.Logic.{inl, inr, ⊎-elim}
-use mathlib.Core.Path.{_≡_, refl, sym, _∙_, subst}
-use Prim.Native.Nat.{ℕ, _+_, _*_, _/_, _%_, _≤_}
+use mathlib.Core.Path.{_≡_, refl, sym, _∙_, subst, subst⁻¹}
+use Prim.Native.Nat.{ℕ, _+_, _*_, _/_, _%_, _≤_, _<_}
 use native.Mathlib.Omega.{arith}
 use borrow.Author.Tests.{eq-eqb}
-use lib.ListN.{length, getD, getD-replicate}
+use lib.ListN.{length, getD}
 use Rattle.units.specs.Address.{memoryBytes}
 use Rattle.units.proofs.Halves.{rejoined}
 use Rattle.units.specs.Bytes.{byteAt, byteOf}
+use Rattle.isa.specs.declared.decoder.Decoded.the-variants.{Defined}
+use Rattle.isa.specs.declared.instruction.Instruction.the-variants.{Halt}
 use Rattle.image.specs.Code.{codeOf}
 use Rattle.image.specs.declared.checker.Layout.{Layout}
-use Rattle.domain.specs.Value.{unknownOf}
-use Rattle.domain_laws.proofs.Sound.{unknown-sound}
 use Rattle.verifier.specs.Verify.{entering}
 use Rattle.cpu.specs.declared.machine.Machine.{Machine}
 use Rattle.cpu.specs.declared.outcome.Outcome.{Outcome}
-use Rattle.cpu.specs.declared.outcome.Outcome.the-variants.{Completed, Halted}
+use Rattle.cpu.specs.declared.outcome.Outcome.the-variants.{Completed}
 use Rattle.runner.specs.declared.runs.RunOutcome.{RunOutcome}
 use Rattle.runner.specs.declared.runs.RunOutcome.the-variants as run
-use Rattle.cpu.specs.Machine.{reg}
-use Rattle.cpu.specs.Step.{State}
-use Rattle.runner.specs.Run.{nextState, stateAfter, runFrom, runOf}
+use Rattle.cpu.specs.Step.{State, fetched}
+use Rattle.runner.specs.Run.{RunResult, nextState, stateAfter, runFrom, runOf}
 use Rattle.loader.specs.Load.{codeByte}
-use Rattle.safety.specs.Safety.{Start, HoldsCode, SafeState, SafeRun, Demand3, LoadHolds}
+use Rattle.safety.specs.Safety.{Start, HoldsCode, SafeState, EndsByHalt, SafeRun, Demand3, LoadHolds}
 use Rattle.safety.proofs.Fitness.{FitCode, fit-code}
 use Rattle.safety.proofs.Invariant.{Inv, HoldsHalfwords, arrive, fetched-is, safe-access, next}
-use Rattle.cpu_laws.proofs.Course.{outcomeAt, EndsAs, run-course, run-keeps}
+use Rattle.safety.proofs.Registers.{unknown-holds}
+use Rattle.cpu_laws.specs.Course.{state, outcomeAt, EndsAs}
+use Rattle.cpu_laws.specs.Sizes.{Registers}
+use Rattle.cpu_laws.proofs.Course.{halted-other, run-course, run-keeps}
 use Rattle.safety.proofs.Loads.{was-fit, after-load, loaded-holds}
-use Rattle.safety.proofs.Twins.{apart, same-runs}
+use Rattle.safety.proofs.Twins.{same-runs}
 
 -- byte by byte is halfword by halfword
 holds-halfwords : (file : List ℕ) (layout : Layout) (memory : List ℕ) → layout .«code_bytes» ≡ 2 * length (codeOf file) → HoldsCode file layout memory → HoldsHalfwords (codeOf file) memory
@@ -43,7 +45,7 @@ holds-halfwords file layout memory size h i hi =
     (h .code (2 * i + 1) (omega (arith, size)) ∙ simp (c, d))
 
 -- with the size of memory right, a run is what its steps make
-run-is : (budget : ℕ) (m : Machine) (memory : List ℕ) → length memory ≡ memoryBytes → runOf budget m memory ≡ runFrom budget 0 (record { machine = m; memory = memory })
+run-is : (budget : ℕ) (m : Machine) (memory : List ℕ) → length memory ≡ memoryBytes → runOf budget m memory ≡ runFrom budget 0 (state m memory)
 unfolding runOf
 run-is budget m memory h = simp (eq-eqb _ _ h)
 
@@ -52,18 +54,16 @@ module _ (file : List ℕ) (layout : Layout) (fit : FitCode (codeOf file) layout
   there memory h = holds-halfwords file layout memory (fit .size) h
 
   -- the start is at instruction 0, where nothing is known
-  begin : (memory : List ℕ) → HoldsCode file layout memory → (m : Machine) → Start m → Inv (codeOf file) layout memory (record { machine = m; memory = memory })
+  begin : (memory : List ℕ) → HoldsCode file layout memory → (m : Machine) → Start m → Inv (codeOf file) layout memory (state m memory)
   unfolding entering
   begin memory h m s =
+      let registers : Registers (m .regs) = record { count = s .sixteen; below = s .halfwords } in
       record {
-        sized = record { sixteen = s .sixteen; halfwords = s .halfwords };
-        size = h .size;
-        bytes = h .bytes;
+        sized = record { registers = registers; bytes = record { count = h .size; below = h .bytes } };
         index = 0;
         inside = fit .some;
         here = s .at-zero;
-        holds = arrive (codeOf file) layout memory fit (there memory h) 0 (m .regs) (fit .some) (s .at-zero) (record { sixteen = s .sixteen; halfwords = s .halfwords })
-            (λ f r hr. rw (getD-replicate 16 r unknownOf unknownOf (omega arith)) (unknown-sound (reg m r) (s .halfwords r)));
+        holds = arrive (codeOf file) layout memory fit (there memory h) 0 (m .regs) (fit .some) (s .at-zero) registers (λ f. unknown-holds 15 (m .regs) (omega arith) registers);
         kept = λ a q. refl;
       }
 
@@ -77,34 +77,46 @@ module _ (file : List ℕ) (layout : Layout) (fit : FitCode (codeOf file) layout
         defined = fetched-is (codeOf file) layout memory fit (there memory h) s inv;
         access = safe-access (codeOf file) layout memory fit (there memory h) s inv;
         goes-on = ⊎-elim (λ x. inr (x .0)) (λ x. inl (x .0)) (next (codeOf file) layout memory fit (there memory h) s inv);
+        size = inv .sized .bytes .count;
         kept = inv .kept;
       }
 
   -- a step that completes keeps the invariant
   keeps : (memory : List ℕ) → HoldsCode file layout memory → (s : State) → Inv (codeOf file) layout memory s → outcomeAt s ≡ Completed → Inv (codeOf file) layout memory (nextState s)
   keeps memory h s inv e =
-      ⊎-elim (λ x. absurd (apart (outcomeAt s) (x .0) e)) (λ x. x .1) (next (codeOf file) layout memory fit (there memory h) s inv)
+      ⊎-elim (λ x. absurd (halted-other (sym (x .0) ∙ e))) (λ x. x .1) (next (codeOf file) layout memory fit (there memory h) s inv)
 
   -- a run ends spent, or as the step after its last one does, which can only halt
-  ending : (memory : List ℕ) (h : HoldsCode file layout memory) (s : State) → Inv (codeOf file) layout memory s → (o : RunOutcome) → EndsAs (outcomeAt s) o → o ≡ run.Halted
+  ending : (memory : List ℕ) (h : HoldsCode file layout memory) (s : State) → Inv (codeOf file) layout memory s → (o : RunOutcome) → EndsAs (outcomeAt s) o
+      → (o ≡ run.Halted) × (fetched (s .machine) (s .memory) ≡ Defined Halt)
   ending memory h s inv o e =
-      ⊎-elim (λ x. subst (λ (a : Outcome). EndsAs a o) (x .0) e) (λ x. absurd (subst (λ (a : Outcome). EndsAs a o) (x .0) e))
+      ⊎-elim (λ x. (subst (λ (a : Outcome). EndsAs a o) (x .0) e, x .1)) (λ x. absurd (subst (λ (a : Outcome). EndsAs a o) (x .0) e))
       (next (codeOf file) layout memory fit (there memory h) s inv)
 
-  pub safe-run : (memory : List ℕ) → HoldsCode file layout memory → (m : Machine) → Start m → (budget : ℕ) → SafeRun file layout m memory budget
+  safe-run : (memory : List ℕ) → HoldsCode file layout memory → (m : Machine) → Start m → (budget : ℕ) → SafeRun file layout m memory budget
   safe-run memory h m s budget =
-      let start : State = record { machine = m; memory = memory } in
+      let start : State = state m memory in
+      let result : RunResult = runOf budget m memory in
       let course = run-course budget m memory (h .size) in
-      let each : (k : ℕ) → k ≤ runOf budget m memory .count → Inv (codeOf file) layout memory (stateAfter k start) =
+      let each : (k : ℕ) → k ≤ result .count → Inv (codeOf file) layout memory (stateAfter k start) =
       run-keeps (Inv (codeOf file) layout memory) (keeps memory h) budget m memory (h .size) (begin memory h m s)
+      in
+      let halts : (result .count < budget) × EndsAs (outcomeAt (stateAfter (result .count) start)) (result .outcome) → EndsByHalt budget result =
+      λ x. let end = ending memory h (stateAfter (result .count) start) (each (result .count) (omega arith)) (result .outcome) (x .1) in
+      record {
+        outcome = end .0;
+        left = x .0;
+        halt = subst⁻¹ (λ (t : State). fetched (t .machine) (t .memory) ≡ Defined Halt) (course .last) (end .1);
+      }
       in
       record {
         states = λ k hk. safe-state memory h (stateAfter k start) (each k hk);
+        completed = course .completed;
         last = course .last;
-        ends = ⊎-elim (λ x. inr (x .0)) (λ x. inl (ending memory h (stateAfter (runOf budget m memory .count) start) (each (runOf budget m memory .count) (omega arith)) (runOf budget m memory .outcome) (x .1))) (course .end);
+        ends = ⊎-elim (λ x. inr (record { outcome = x .0; all = x .1 })) (λ x. inl (halts x)) (course .end);
         alike = λ other g w. rw (run-is budget m memory (h .size), run-is budget m other (g .size))
             (same-runs (codeOf file) layout fit memory other (there memory h) (there other g) budget 0 _ _ (begin memory h m s) (begin other g m s)
-            record { machine = refl; window = w; size = h .size ∙ sym (g .size) });
+            record { machine = refl; window = w });
       }
 
 pub demand-3 : Demand3

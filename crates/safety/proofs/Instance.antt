@@ -11,12 +11,9 @@ use Rattle.image.specs.Block.{sumBelow}
 use Rattle.image.specs.Format.{tabulateFrom}
 use Rattle.packer.specs.Pack.{bodyHalfword, balanceOf, imageHalfword, imageOf}
 use Rattle.table_laws.proofs.Table.{starred-rows}
-use Rattle.table_laws.specs.Table.{nzcv}
 use Rattle.safety.specs.Instance.{imageP, layoutP, memoryP, InstanceP}
 use Rattle.safety.proofs.Loads.{loaded-holds}
 use Rattle.safety.proofs.Demand3.{demand-3}
-use mathlib.Core.Bool.{false}
-use mathlib.Core.List.{[]}
 
 -- a list of so many numbers below 256 that a test computes is bytes throughout
 all-bytes : (l : List ℕ) → T (every (λ a. ltb (getD l a 0) 256) (length l)) → (a : ℕ) → getD l a 0 < 256
@@ -41,5 +38,5 @@ zero-bytes a = go (decLt a 65536)
 
 pub instance-p : InstanceP
 instance-p m s budget =
-    demand-3 imageP layoutP (starred-rows [] (nzcv false false false false) .p-256) memoryP
+    demand-3 imageP layoutP (starred-rows .p-256) memoryP
     (loaded-holds imageP (replicate 65536 0) image-bytes zero-bytes layoutP (omega arith)) m s budget

@@ -2,7 +2,7 @@
 use mathlib.Core.Bool.{true, false, false≢true}
 use mathlib.Core.List.{List}
 use mathlib.Core.Logic.{_⊎_, inl, inr, ⊎-elim}
-use mathlib.Core.Path.{_≡_, refl, sym, ap, _∙_}
+use mathlib.Core.Path.{_≡_, refl, sym, ap, _∙_, subst}
 use Prim.Native.Nat.{ℕ, suc, _+_, _*_, _/_, _%_, _<_}
 use native.Mathlib.Decide.{ℕ-discrete}
 use native.Mathlib.Omega.{arith}
@@ -25,22 +25,26 @@ use Rattle.verifier.specs.declared.branch.Target.the-variants.{To}
 use Rattle.cpu.specs.declared.machine.Machine.{Machine}
 use Rattle.cpu.specs.declared.outcome.Outcome.the-variants.{Completed, Halted}
 use Rattle.cpu.specs.Machine.{pc}
-use Rattle.cpu.specs.Step.{State, executeOf, fetched, fetchAndExecute, stepOf}
+use Rattle.cpu.specs.Step.{State, StepResult, executeOf, fetched, stepOf}
+use Rattle.runner.specs.Run.{nextState}
+use Rattle.cpu_laws.specs.Course.{outcomeAt}
+use Rattle.cpu_laws.specs.Sizes.{Registers, Sized}
+use Rattle.cpu_laws.proofs.Steps.{step-decoded}
+use Rattle.cpu_laws.proofs.Course.{halted-other}
+use Rattle.cpu_laws.proofs.Sizes.{step-sized}
 use Rattle.safety.specs.Safety.{InWindow, SafeAccess}
-use Rattle.safety.proofs.Registers.{Sized, HoldsBelow, Moved, standing-holds}
+use Rattle.safety.proofs.Registers.{HoldsBelow, Moved, standing-holds}
 use Rattle.isa_laws.proofs.Narrow.{Narrow, decoded-narrow}
 use Rattle.safety.proofs.Steps.{Completes, step-case}
-use Rattle.safety.proofs.Accesses.{access-safe}
-use Rattle.safety.proofs.Memories.{step-kept}
+use Rattle.safety.proofs.Accesses.{access-safe, data-in-window}
+use Rattle.safety.proofs.Touched.{execute-kept}
 use Rattle.verifier.proofs.Walk.{length-entering, length-values}
 use Rattle.safety.proofs.Fitness.{FitCode}
 
 -- ---- the invariant, of a code and layout, and of the memory at the start
 
 pub record Inv (code : List ℕ) (layout : Layout) (start : List ℕ) (s : State) : Type 0 where
-  pub sized : Sized (s .machine .regs)
-  pub size : length (s .memory) ≡ 65536
-  pub bytes : (a : ℕ) → byteAt (s .memory) a < 256
+  pub sized : Sized s
   pub index : ℕ
   pub inside : index < length code
   pub here : pc (s .machine) ≡ 2 * index
@@ -56,7 +60,7 @@ module _ (code : List ℕ) (layout : Layout) (start : List ℕ) (fit : FitCode c
   address-is i h = omega (arith, fit .short)
 
   -- the values hold where a step arrives at instruction i, unless it came by a branch
-  pub arrive : (i : ℕ) (regs : List ℕ) → i < length code → getD regs 15 0 ≡ 2 * i → Sized regs
+  pub arrive : (i : ℕ) (regs : List ℕ) → i < length code → getD regs 15 0 ≡ 2 * i → Registers regs
       → (targeted code i ≡ false → HoldsBelow 15 (entering code i) regs) → HoldsBelow 16 (valuesAt code i) regs
   arrive i regs h e sized holds =
       standing-holds (addressOf i .0) (targeted code i) (entering code i) regs (omega arith) (e ∙ sym (address-is i h)) (length-entering code i) sized holds
@@ -91,8 +95,7 @@ module _ (code : List ℕ) (layout : Layout) (start : List ℕ) (fit : FitCode c
     fetched-is = ap decodeOf fetch-is ∙ fit .passed (inv .index) (inv .inside) .passes9
 
     pub step-is : stepOf m (s .memory) ≡ executeOf ins m (s .memory)
-    unfolding stepOf fetchAndExecute
-    step-is = simp (eq-eqb _ _ (inv .size), eq-eqb _ _ even, fetched-is)
+    step-is = step-decoded m (s .memory) (Defined ins) (inv .sized .bytes .count) even fetched-is
 
     narrow : Narrow ins
     unfolding fetched
@@ -117,20 +120,18 @@ module _ (code : List ℕ) (layout : Layout) (start : List ℕ) (fit : FitCode c
         go (yes e) = absurd (h (zero-halts (eqb-true _ _ (simp (eq-eqb _ _ e) at (fit .passed (inv .index) (inv .inside) .passes14)))))
         go (no n) = omega (arith, inv .inside)
 
-    -- a state whose registers and memory a step has left so, at instruction j
-    arrived : (j : ℕ) → j < length code → Sized regs′ → getD regs′ 15 0 ≡ 2 * j → (targeted code j ≡ false → HoldsBelow 15 (entering code j) regs′)
+    -- what a step has left, at instruction j
+    arrived : (j : ℕ) → j < length code → getD regs′ 15 0 ≡ 2 * j → (targeted code j ≡ false → HoldsBelow 15 (entering code j) regs′)
         → Inv code layout start (executeOf ins m (s .memory) .state)
-    arrived j hj sized e holds =
-        let k = step-kept layout m (s .memory) (inv .sized) ins safe-access in
+    arrived j hj e holds =
+        let sized : Sized (executeOf ins m (s .memory) .state) = subst (λ (r : StepResult). Sized (r .state)) step-is (step-sized s (inv .sized)) in
         record {
           sized = sized;
-          size = k .size ∙ inv .size;
-          bytes = k .bytes (inv .bytes);
           index = j;
           inside = hj;
           here = e;
-          holds = arrive j regs′ hj e sized holds;
-          kept = λ a h. k .same a h ∙ inv .kept a h;
+          holds = arrive j regs′ hj e (sized .registers) holds;
+          kept = λ a h. execute-kept m (s .memory) ins .others a (λ d. h (data-in-window layout m (accessOf ins) safe-access a d)) ∙ inv .kept a h;
         }
 
     -- what falls into the next instruction is what this one leaves
@@ -144,7 +145,7 @@ module _ (code : List ℕ) (layout : Layout) (start : List ℕ) (fit : FitCode c
     fell : (ins ≡ Halt → ⊥) → Moved (transferOf (pc m) ins (valuesAt code i)) regs′ (wrap (pc m + 2)) → Inv code layout start (executeOf ins m (s .memory) .state)
     fell h moved =
         let j : suc i < length code = not-last h in
-        arrived (suc i) j (moved .sized) (omega (arith, moved .pc, inv .here, fit .short))
+        arrived (suc i) j (omega (arith, moved .pc, inv .here, fit .short))
         (λ f. rw entered (moved .holds))
 
     -- by a branch
@@ -154,21 +155,19 @@ module _ (code : List ℕ) (layout : Layout) (start : List ℕ) (fit : FitCode c
     branched t e even-t moved =
         let below : t .0 < layout .«code_bytes» = ltb-true _ _ (simp (← fit .size, here-is, e) at (fit .passed (inv .index) (inv .inside) .passes13)) in
         let hit : targeted code (t .0 / 2) ≡ true = fit .hits i (t .0 / 2) (inv .inside) (simp (fit .passed (inv .index) (inv .inside) .passes9, here-is, e) (eq-eqb (t .0 / 2) (t .0 / 2) refl)) in
-        arrived (t .0 / 2) (omega (arith, fit .size)) (moved .sized) (omega (arith, moved .pc))
+        arrived (t .0 / 2) (omega (arith, fit .size)) (omega (arith, moved .pc))
         (λ f. absurd (false≢true (sym f ∙ hit)))
 
-    -- a step of the run halts, or completes and leads to a state of the same kind
-    pub next : ((stepOf m (s .memory) .outcome ≡ Halted) × (stepOf m (s .memory) .state ≡ s)) ⊎ ((stepOf m (s .memory) .outcome ≡ Completed) × Inv code layout start (stepOf m (s .memory) .state))
+    -- a step of the run halts, where HALT is, or completes and leads to a state of the same kind
+    pub next : ((outcomeAt s ≡ Halted) × (fetched m (s .memory) ≡ Defined Halt)) ⊎ ((outcomeAt s ≡ Completed) × Inv code layout start (nextState s))
     unfolding executeOf
     next =
-        rw step-is
-        (⊎-elim (λ e. inl (rw e (refl, refl))) (λ c. inr (c .outcome, ⊎-elim (λ moved. fell (running c) moved) (λ j. branched (j .0) (j .1) (j .2 even) (j .3)) (c .moved)))
-        (step-case (valuesAt code i) m (s .memory) (length-values code i) (inv .sized) (inv .holds) (inv .bytes) ins narrow
+        rw (outcomeAt, nextState, step-is)
+        (⊎-elim (λ e. inl (rw e refl, fetched-is ∙ ap Defined e)) (λ c. inr (c .outcome, ⊎-elim (λ moved. fell (running c) moved) (λ j. branched (j .0) (j .1) (j .2 even) (j .3)) (c .moved)))
+        (step-case (valuesAt code i) m (s .memory) (length-values code i) (inv .sized .registers) (inv .holds) (inv .sized .bytes) ins narrow
         (fit .passed (inv .index) (inv .inside) .passes12) (safe-access .aligned)))
       where
         running : Completes (valuesAt code (inv .index)) (fit .passed (inv .index) (inv .inside) .instruction) (s .machine) (executeOf (fit .passed (inv .index) (inv .inside) .instruction) (s .machine) (s .memory))
             → fit .passed (inv .index) (inv .inside) .instruction ≡ Halt → ⊥
         running c e =
-            let h : Halted ≡ Completed = ap (λ (j : Instruction). executeOf j (s .machine) (s .memory) .outcome) (sym e) ∙ c .outcome in
-            let z : _≡_ {A = ℕ} 0 1 = cc in
-            omega arith
+            halted-other (ap (λ (j : Instruction). executeOf j (s .machine) (s .memory) .outcome) (sym e) ∙ c .outcome)

@@ -2,7 +2,7 @@ pub mod Lists
 pub mod Registers
 pub mod Steps
 pub mod Accesses
-pub mod Memories
+pub mod Touched
 pub mod Fitness
 pub mod Invariant
 pub mod Twins

@@ -14,19 +14,11 @@ use Rattle.domain_laws.specs.Holds.{Holds}
 use Rattle.domain_laws.proofs.Sound.{unknown-sound, exactly-sound}
 use Rattle.verifier.specs.State.{State, value, unknownState, standingAt}
 use Rattle.cpu.specs.Machine.{advanced, written}
-use Rattle.safety.proofs.Lists.{set-below}
-
--- sixteen registers of 16 bits
-pub record Sized (regs : List ℕ) : Type 0 where
-  pub sixteen : length regs ≡ 16
-  pub halfwords : (r : ℕ) → getD regs r 0 < 65536
+use Rattle.cpu_laws.specs.Sizes.{Registers}
 
 -- the values of the first n registers hold of them
 abbrev pub HoldsBelow : ℕ → State → List ℕ → Type 0
 HoldsBelow n s regs = (r : ℕ) → r < n → Holds (value s r) (getD regs r 0)
-
-pub set-sized : (regs : List ℕ) (d x : ℕ) → Sized regs → x < 65536 → Sized (set regs d x)
-set-sized regs d x h hx = record { sixteen = length-set regs d x ∙ h .sixteen; halfwords = set-below 65536 regs d x (h .halfwords) hx }
 
 -- a register and its value are set together
 set-holds : (n : ℕ) (s : State) (regs : List ℕ) (d x : ℕ) (v : Value) → d < 16 → length s ≡ 16 → length regs ≡ 16 → HoldsBelow n s regs → Holds v x
@@ -38,44 +30,38 @@ set-holds n s regs d x v hd hs hr h hv r hl = go (ℕ-discrete r d)
     go (no q) = rw (getD-set-other s d r v unknownOf q, getD-set-other regs d r x 0 q) (h r hl)
 
 -- R15 is set, of which the values below it say nothing
-pub pc-holds : (s : State) (regs : List ℕ) (x : ℕ) → HoldsBelow 15 s regs → HoldsBelow 15 s (set regs 15 x)
+pc-holds : (s : State) (regs : List ℕ) (x : ℕ) → HoldsBelow 15 s regs → HoldsBelow 15 s (set regs 15 x)
 pc-holds s regs x h r hl = let q : r ≡ 15 → ⊥ = omega arith in rw (getD-set-other regs 15 r x 0 q) (h r hl)
 
 -- ---- what a step does to the registers
 
--- the registers are sized, the values hold below R15, and the PC is where it should be
+-- the values hold below R15, and the PC is where it should be
 pub record Moved (s : State) (regs : List ℕ) (at : ℕ) : Type 0 where
-  pub sized : Sized regs
   pub holds : HoldsBelow 15 s regs
   pub pc : getD regs 15 0 ≡ at
 
-pub jumped : (s : State) (regs : List ℕ) (x : ℕ) → x < 65536 → Sized regs → HoldsBelow 15 s regs → Moved s (set regs 15 x) x
-jumped s regs x hx hr h =
-    record { sized = set-sized regs 15 x hr hx; holds = pc-holds s regs x h; pc = getD-set-same regs 15 x 0 (omega (arith, hr .sixteen)) }
+pub jumped : (s : State) (regs : List ℕ) (x : ℕ) → Registers regs → HoldsBelow 15 s regs → Moved s (set regs 15 x) x
+jumped s regs x hr h = record { holds = pc-holds s regs x h; pc = getD-set-same regs 15 x 0 (omega (arith, hr .count)) }
 
-next-fits : (x : ℕ) → wrap (x + 2) < 65536
-next-fits x = omega arith
+pub on : (s : State) (regs : List ℕ) → Registers regs → HoldsBelow 15 s regs → Moved s (advanced regs) (wrap (getD regs 15 0 + 2))
+on s regs hr h = jumped s regs (wrap (getD regs 15 0 + 2)) hr h
 
-pub on : (s : State) (regs : List ℕ) → Sized regs → HoldsBelow 15 s regs → Moved s (advanced regs) (wrap (getD regs 15 0 + 2))
-on s regs hr h = jumped s regs (wrap (getD regs 15 0 + 2)) (next-fits (getD regs 15 0)) hr h
-
-pub wrote : (s : State) (regs : List ℕ) (d x : ℕ) (v : Value) → d < 15 → length s ≡ 16 → Sized regs → HoldsBelow 15 s regs → x < 65536 → Holds v x
+pub wrote : (s : State) (regs : List ℕ) (d x : ℕ) (v : Value) → d < 15 → length s ≡ 16 → Registers regs → HoldsBelow 15 s regs → Holds v x
     → Moved (set s d v) (written regs d x) (wrap (getD regs 15 0 + 2))
-wrote s regs d x v hd hs hr h hx hv =
+wrote s regs d x v hd hs hr h hv =
     let m = on s regs hr h in
     let q : 15 ≡ d → ⊥ = omega arith in
     record {
-      sized = set-sized (advanced regs) d x (m .sized) hx;
-      holds = set-holds 15 s (advanced regs) d x v (omega arith) hs (m .sized .sixteen) (m .holds) hv;
+      holds = set-holds 15 s (advanced regs) d x v (omega arith) hs (length-set regs 15 (wrap (getD regs 15 0 + 2)) ∙ hr .count) (m .holds) hv;
       pc = getD-set-other (advanced regs) d 15 x 0 q ∙ m .pc;
     }
 
 -- ---- arriving at an instruction
 
-unknown-holds : (n : ℕ) (regs : List ℕ) → n ≤ 16 → Sized regs → HoldsBelow n unknownState regs
-unknown-holds n regs hn hr r hl = rw (getD-replicate 16 r unknownOf unknownOf (omega arith)) (unknown-sound (getD regs r 0) (hr .halfwords r))
+pub unknown-holds : (n : ℕ) (regs : List ℕ) → n ≤ 16 → Registers regs → HoldsBelow n unknownState regs
+unknown-holds n regs hn hr r hl = rw (getD-replicate 16 r unknownOf unknownOf (omega arith)) (unknown-sound (getD regs r 0) (hr .below r))
 
-forget-holds : (t : Bool) (s : State) (regs : List ℕ) → Sized regs → (t ≡ false → HoldsBelow 15 s regs) → HoldsBelow 15 (cond t unknownState s) regs
+forget-holds : (t : Bool) (s : State) (regs : List ℕ) → Registers regs → (t ≡ false → HoldsBelow 15 s regs) → HoldsBelow 15 (cond t unknownState s) regs
 forget-holds true s regs hr h = unknown-holds 15 regs (omega arith) hr
 forget-holds false s regs hr h = h refl
 
@@ -84,7 +70,7 @@ forget-long true s h = refl
 forget-long false s h = h
 
 -- the address is known: R15 holds it
-pub standing-holds : (a : ℕ) (t : Bool) (s : State) (regs : List ℕ) → a < 65536 → getD regs 15 0 ≡ a → length s ≡ 16 → Sized regs
+pub standing-holds : (a : ℕ) (t : Bool) (s : State) (regs : List ℕ) → a < 65536 → getD regs 15 0 ≡ a → length s ≡ 16 → Registers regs
     → (t ≡ false → HoldsBelow 15 s regs) → HoldsBelow 16 (standingAt a (cond t unknownState s)) regs
 standing-holds a t s regs ha e hs hr h r hl = go (ℕ-discrete r 15)
   where

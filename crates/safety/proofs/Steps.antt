@@ -4,7 +4,7 @@ use mathlib.Core.List.{List}
 use mathlib.Core.Logic.{_⊎_, inl, inr}
 use mathlib.Core.Path.{_≡_, refl}
 use Prim.Native.Nat.{ℕ, _+_, _-_, _*_, _/_, _%_, _^_, _≤_, _<_, zero-le}
-use native.Mathlib.Nat.{le-refl, le-trans, zero-add}
+use native.Mathlib.Nat.{le-refl, le-of-suc-le-suc, zero-add}
 use native.Mathlib.Omega.{arith}
 use borrow.Author.Tests.{eq-eqb, eqb-false, not-true, lt-leb}
 use lib.Dec.{eqb, ltb}
@@ -12,35 +12,31 @@ use lib.ListN.{length, set}
 use lib.Pow.{shr-le}
 use Rattle.units.specs.Address.{wrap, branchTargetOf, pcSum}
 use Rattle.units.specs.declared.address.ByteAddress.{ByteAddress}
-use Rattle.units.specs.Bytes.{byteAt, halfwordAt}
 use Rattle.isa.specs.declared.instruction.Instruction.{Instruction}
 use Rattle.isa.specs.declared.instruction.Instruction.the-variants.{MovImm, CmpImm, And, Eor, Asr, Tst, Neg, Cmp, AddHigh, CmpHigh, MovHigh, Str, Ldr, Strb, Ldrb, AddPc, Branch, Halt}
 use Rattle.domain.specs.declared.value.Value.{Value}
 use Rattle.domain_laws.specs.Holds.{Holds}
-use Rattle.domain_laws.proofs.Sound.{unknown-sound, exactly-sound, byte-sound, holds-word, neg-sound, asr-sound, add-sound, and-sound, eor-sound}
+use Rattle.domain_laws.proofs.Sound.{unknown-sound, exactly-sound, byte-sound, neg-sound, asr-sound, add-sound, and-sound, eor-sound}
 use Rattle.verifier.specs.Access.{accessOf, jumpOf}
 use Rattle.verifier.specs.Questions.{check12}
 use Rattle.verifier.specs.State.{State, value, transferOf}
 use Rattle.verifier.specs.declared.branch.Target.the-variants.{To}
 use Rattle.cpu.specs.declared.machine.Machine.{Machine}
-use Rattle.cpu.specs.Machine.{Flags}
 use Rattle.cpu.specs.declared.outcome.Outcome.the-variants.{Completed}
-use Rattle.cpu.specs.Machine.{reg, pc, flags, machine, advanced, written}
-use Rattle.cpu.specs.Alu.{negative, shiftOf, shiftedOf, conditionOf}
+use Rattle.cpu.specs.Machine.{Flags, reg, pc, flags, machine, advanced, written}
+use Rattle.cpu.specs.Alu.{negative, shiftOf, conditionOf}
 use Rattle.cpu.specs.Step.{StepResult, completed, effectiveAddress, executeOf, addHighOf, addPcOf, andOf, asrOf, branchOf, cmpImmOf, cmpOf, cmpHighOf, eorOf, ldrOf, ldrbOf, movImmOf, movHighOf, negOf, strOf, strbOf, tstOf}
-use Rattle.safety.proofs.Registers.{Sized, HoldsBelow, Moved, jumped, on, wrote}
+use Rattle.cpu_laws.specs.Sizes.{Registers, Bytes}
+use Rattle.safety.specs.Touched.{dataAddress}
+use Rattle.cpu_laws.proofs.Sizes.{shift-small, halfword-small}
+use Rattle.safety.proofs.Registers.{HoldsBelow, Moved, jumped, on, wrote}
 use Rattle.isa_laws.proofs.Narrow.{Narrow}
 
--- ---- an arithmetic shift gives 16 bits, and no more than what it shifts where that is not negative
+-- ---- an arithmetic shift gives no more than what it shifts where that is not negative
 
 cond-le : (b : ℕ) (t : Bool) (x y : ℕ) → x ≤ b → y ≤ b → cond t x y ≤ b
 cond-le b true x y p q = p
 cond-le b false x y p q = q
-
-shift-word : (a k : ℕ) → a ≤ 65535 → shiftOf a k ≤ 65535
-shift-word a k h =
-    cond-le 65535 (eqb k 0) a _ h
-    (cond-le 65535 (ltb k 16) (shiftedOf a k) _ (cond-le 65535 (negative a) _ _ (omega arith) (le-trans (shr-le a k) h)) (cond-le 65535 (negative a) 65535 0 (omega arith) (omega arith)))
 
 shift-less : (a k : ℕ) → a ≤ 32767 → shiftOf a k ≤ a
 shift-less a k h =
@@ -55,7 +51,7 @@ pub record Completes (s : State) (i : Instruction) (m : Machine) (r : StepResult
   pub moved : Moved (transferOf (pc m) i s) (r .state .machine .regs) (wrap (pc m + 2))
       ⊎ ((t : ByteAddress) × (jumpOf (record { 0 = pc m }) i ≡ To t) × (pc m % 2 ≡ 0 → t .0 % 2 ≡ 0) × Moved (transferOf (pc m) i s) (r .state .machine .regs) (t .0))
 
-module _ (s : State) (m : Machine) (memory : List ℕ) (long : length s ≡ 16) (sized : Sized (m .regs)) (holds : HoldsBelow 16 s (m .regs)) (bytes : (a : ℕ) → byteAt memory a < 256) where
+module _ (s : State) (m : Machine) (memory : List ℕ) (long : length s ≡ 16) (sized : Registers (m .regs)) (holds : HoldsBelow 16 s (m .regs)) (bytes : Bytes memory) where
   below : HoldsBelow 15 s (m .regs)
   below r h = holds r (omega arith)
 
@@ -65,7 +61,7 @@ module _ (s : State) (m : Machine) (memory : List ℕ) (long : length s ≡ 16) 
   -- an instruction that writes x, of which v holds, into Rd
   writes : (i : Instruction) (rd x : ℕ) (v : Value) (f : Flags) → rd < 15 → Holds v x → transferOf (pc m) i s ≡ set s rd v
       → Completes s i m (completed (machine (written (m .regs) rd x) f) memory)
-  writes i rd x v f hd hv e = record { outcome = refl; moved = inl (rw e (wrote s (m .regs) rd x v hd long sized below (holds-word v x hv) hv)) }
+  writes i rd x v f hd hv e = record { outcome = refl; moved = inl (rw e (wrote s (m .regs) rd x v hd long sized below hv)) }
 
   -- one that writes no register
   passes : (i : Instruction) (f : Flags) (after : List ℕ) → transferOf (pc m) i s ≡ s → Completes s i m (completed (machine (advanced (m .regs)) f) after)
@@ -74,9 +70,6 @@ module _ (s : State) (m : Machine) (memory : List ℕ) (long : length s ≡ 16) 
   -- a load or store of a halfword is aligned
   aligned-then : {A : Type 0} (a : ℕ) (x y : A) → a % 4 ≡ 0 → cond (eqb (a % 4) 0) x y ≡ x
   aligned-then a x y e = simp (eq-eqb _ _ e)
-
-  halfword-lt : (a : ℕ) → halfwordAt memory a < 65536
-  halfword-lt a = omega (arith, bytes a, bytes (a + 1))
 
   not-pc : (rd : ℕ) → rd < 16 → not (eqb rd 15) ≡ true → rd < 15
   not-pc rd h e = let n : rd ≡ 15 → ⊥ = eqb-false rd 15 (not-true (eqb rd 15) e) in omega arith
@@ -92,11 +85,11 @@ module _ (s : State) (m : Machine) (memory : List ℕ) (long : length s ≡ 16) 
   branch-case : (condition offset : ℕ) (t : Bool)
       → Completes s (Branch condition offset) m (completed (machine (cond t (set (m .regs) 15 (branchTargetOf (record { 0 = pc m }) offset .0)) (advanced (m .regs))) (flags m)) memory)
   branch-case condition offset true =
-      record { outcome = refl; moved = inr (branchTargetOf (record { 0 = pc m }) offset, refl, target-even (pc m) offset, jumped s (m .regs) _ (omega arith) sized below) }
+      record { outcome = refl; moved = inr (branchTargetOf (record { 0 = pc m }) offset, refl, target-even (pc m) offset, jumped s (m .regs) _ sized below) }
   branch-case condition offset false = passes (Branch condition offset) (flags m) memory refl
 
   -- every instruction but HALT, where check 12 has passed and its data are aligned
-  pub step-case : (i : Instruction) → Narrow i → check12 i ≡ true → (accessOf i .size ≡ 2 → effectiveAddress m (accessOf i .base) (accessOf i .offset) % 4 ≡ 0)
+  pub step-case : (i : Instruction) → Narrow i → check12 i ≡ true → (accessOf i .size ≡ 2 → dataAddress m (accessOf i) % 4 ≡ 0)
       → (i ≡ Halt) ⊎ Completes s i m (executeOf i m memory)
   unfolding executeOf movImmOf cmpImmOf andOf eorOf asrOf tstOf negOf cmpOf addHighOf cmpHighOf movHighOf strOf ldrOf strbOf ldrbOf addPcOf branchOf
   step-case (MovImm rd imm) h k a = inr (writes (MovImm rd imm) rd imm _ _ (omega (arith, h .0)) (exactly-sound imm (omega (arith, h .1))) refl)
@@ -105,7 +98,7 @@ module _ (s : State) (m : Machine) (memory : List ℕ) (long : length s ≡ 16) 
   step-case (Eor rs rd) h k a = inr (writes (Eor rs rd) rd _ _ _ (omega (arith, h .1)) (eor-sound _ _ _ _ (at rd (omega (arith, h .1))) (at rs (omega (arith, h .0)))) refl)
   step-case (Asr rs rd) h k a =
       inr (writes (Asr rs rd) rd _ _ _ (omega (arith, h .1))
-      (asr-sound _ (reg m rd) _ (at rd (omega (arith, h .1))) (shift-less (reg m rd) (reg m rs % 256)) (shift-word (reg m rd) (reg m rs % 256) (omega (arith, sized .halfwords rd)))) refl)
+      (asr-sound _ (reg m rd) _ (at rd (omega (arith, h .1))) (shift-less (reg m rd) (reg m rs % 256)) (le-of-suc-le-suc (shift-small (reg m rd) (reg m rs % 256) (sized .below rd)))) refl)
   step-case (Tst rs rd) h k a = inr (passes (Tst rs rd) _ memory refl)
   step-case (Neg rs rd) h k a = inr (writes (Neg rs rd) rd _ _ _ (omega (arith, h .1)) (rw (zero-add (65536 - reg m rs)) (neg-sound _ _ (at rs (omega (arith, h .0))))) refl)
   step-case (Cmp rs rd) h k a = inr (passes (Cmp rs rd) _ memory refl)
@@ -114,9 +107,9 @@ module _ (s : State) (m : Machine) (memory : List ℕ) (long : length s ≡ 16) 
   step-case (MovHigh rs rd) h k a = inr (writes (MovHigh rs rd) rd _ _ _ (not-pc rd (h .1) k) (at rs (h .0)) refl)
   step-case (Str offset rb rd) h k a = inr (rw (aligned-then (effectiveAddress m rb (4 * offset)) _ _ (a refl)) (passes (Str offset rb rd) _ _ refl))
   step-case (Ldr offset rb rd) h k a =
-      inr (rw (aligned-then (effectiveAddress m rb (4 * offset)) _ _ (a refl)) (writes (Ldr offset rb rd) rd _ _ _ (omega (arith, h .2)) (unknown-sound _ (halfword-lt _)) refl))
+      inr (rw (aligned-then (effectiveAddress m rb (4 * offset)) _ _ (a refl)) (writes (Ldr offset rb rd) rd _ _ _ (omega (arith, h .2)) (unknown-sound _ (halfword-small memory _ bytes)) refl))
   step-case (Strb offset rb rd) h k a = inr (passes (Strb offset rb rd) _ _ refl)
-  step-case (Ldrb offset rb rd) h k a = inr (writes (Ldrb offset rb rd) rd _ _ _ (omega (arith, h .2)) (byte-sound _ (bytes _)) refl)
+  step-case (Ldrb offset rb rd) h k a = inr (writes (Ldrb offset rb rd) rd _ _ _ (omega (arith, h .2)) (byte-sound _ (bytes .below _)) refl)
   step-case (AddPc rd imm) h k a = inr (writes (AddPc rd imm) rd (pcSum (pc m) imm) _ _ (omega (arith, h .0)) (exactly-sound (pcSum (pc m) imm) (omega arith)) refl)
   step-case (Branch condition offset) h k a = inr (branch-case condition offset (conditionOf condition (flags m)))
   step-case Halt h k a = inl refl

@@ -4,29 +4,25 @@ use mathlib.Core.Logic.{⊎-elim}
 use mathlib.Core.Path.{_≡_, refl, sym, ap, _∙_}
 use Prim.Native.Nat.{ℕ, zero, suc, _+_}
 use native.Mathlib.Omega.{arith}
-use lib.ListN.{length}
 use Rattle.isa.specs.declared.decoder.Decoded.the-variants.{Defined}
 use Rattle.image.specs.declared.checker.Layout.{Layout}
+use Rattle.verifier.specs.Access.{accessOf}
 use Rattle.verifier.specs.Targets.{decodedAt}
-use Rattle.cpu.specs.declared.outcome.Outcome.{Outcome}
-use Rattle.cpu.specs.declared.outcome.Outcome.the-variants.{Completed, Halted}
 use Rattle.cpu.specs.Machine.{pc}
 use Rattle.cpu.specs.Step.{State, stepOf}
 use Rattle.runner.specs.Run.{nextState, runFrom}
+use Rattle.safety.specs.Touched.{Alike}
 use Rattle.safety.specs.Safety.{SameWindow, SameResult}
 use Rattle.safety.proofs.Fitness.{FitCode}
 use Rattle.safety.proofs.Invariant.{Inv, HoldsHalfwords, step-is, safe-access, next}
-use Rattle.safety.proofs.Memories.{Alike, step-alike}
-use Rattle.cpu_laws.proofs.Course.{outcomeAt}
+use Rattle.safety.proofs.Accesses.{data-in-window}
+use Rattle.safety.proofs.Touched.{execute-alike}
+use Rattle.cpu_laws.proofs.Course.{halted-other}
 
 -- two states with the same machine and window
 pub record Twin (layout : Layout) (s t : State) : Type 0 where
   pub machine : s .machine ≡ t .machine
   pub window : SameWindow layout (s .memory) (t .memory)
-  pub size : length (s .memory) ≡ length (t .memory)
-
-pub apart : (o : Outcome) → o ≡ Halted → o ≡ Completed → ⊥
-apart o h c = let z : _≡_ {A = ℕ} 0 1 = cc in omega arith
 
 module _ (code : List ℕ) (layout : Layout) (fit : FitCode code layout) (start other : List ℕ) (there : HoldsHalfwords code start) (there′ : HoldsHalfwords code other) where
   same-instruction : (s t : State) (p : Inv code layout start s) (q : Inv code layout other t) → s .machine ≡ t .machine
@@ -39,10 +35,12 @@ module _ (code : List ℕ) (layout : Layout) (fit : FitCode code layout) (start 
       cc
 
   step-twin : (s t : State) → Inv code layout start s → Inv code layout other t → Twin layout s t
-      → Alike layout (stepOf (s .machine) (s .memory)) (stepOf (t .machine) (t .memory))
+      → Alike (s .memory) (t .memory) (stepOf (s .machine) (s .memory)) (stepOf (t .machine) (t .memory))
   step-twin s t p q w =
+      let i = fit .passed (p .index) (p .inside) .instruction in
       rw (step-is code layout start fit there s p, step-is code layout other fit there′ t q, ← same-instruction s t p q (w .machine), ← w .machine)
-      (step-alike layout (s .machine) (s .memory) (t .memory) (w .size) (w .window) (fit .passed (p .index) (p .inside) .instruction) (safe-access code layout start fit there s p))
+      (execute-alike (s .machine) (s .memory) (t .memory) (p .sized .bytes .count ∙ sym (q .sized .bytes .count)) i
+      (λ a d. w .window a (data-in-window layout (s .machine) (accessOf i) (safe-access code layout start fit there s p) a d)))
 
   pub same-runs : (left count : ℕ) (s t : State) → Inv code layout start s → Inv code layout other t → Twin layout s t
       → SameResult layout (runFrom left count s) (runFrom left count t)
@@ -50,10 +48,11 @@ module _ (code : List ℕ) (layout : Layout) (fit : FitCode code layout) (start 
   same-runs zero count s t p q w = record { machine = w .machine; window = w .window; outcome = refl; count = refl }
   same-runs (suc left) count s t p q w =
       let a = step-twin s t p q w in
+      let window : SameWindow layout (nextState s .memory) (nextState t .memory) = λ b h. a .bytes b (w .window b h) in
       ⊎-elim
-      (λ h. rw (h .0, sym (a .outcome) ∙ h .0) record { machine = a .machine; window = a .window; outcome = refl; count = refl })
+      (λ h. rw (h .0, sym (a .outcome) ∙ h .0) record { machine = a .machine; window = window; outcome = refl; count = refl })
       (λ h. ⊎-elim
-      (λ k. absurd (apart (outcomeAt t) (k .0) (sym (a .outcome) ∙ h .0)))
-      (λ k. rw (h .0, k .0) (same-runs left (count + 1) (nextState s) (nextState t) (h .1) (k .1) record { machine = a .machine; window = a .window; size = a .size }))
+      (λ k. absurd (halted-other (sym (k .0) ∙ sym (a .outcome) ∙ h .0)))
+      (λ k. rw (h .0, k .0) (same-runs left (count + 1) (nextState s) (nextState t) (h .1) (k .1) record { machine = a .machine; window = window }))
       (next code layout other fit there′ t q))
       (next code layout start fit there s p)

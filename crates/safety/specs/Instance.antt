@@ -2,6 +2,7 @@
 use mathlib.Core.List.{List}
 use Prim.Native.Nat.{ℕ}
 use lib.ListN.{replicate}
+use Rattle.units.specs.Address.{memoryBytes}
 use Rattle.packer.specs.Pack.{imageOf}
 use Rattle.image.specs.declared.checker.Layout.{Layout}
 use Rattle.cpu.specs.declared.machine.Machine.{Machine}
@@ -16,7 +17,7 @@ abbrev pub layoutP : Layout
 layoutP = record { «code_bytes» = 14; «window_start» = 256; «window_length» = 256 }
 
 abbrev pub memoryP : List ℕ
-memoryP = loadedMemory imageP layoutP (replicate 65536 0)
+memoryP = loadedMemory imageP layoutP (replicate memoryBytes 0)
 
 -- P's runs from any start and with any budget are safe
 abbrev pub InstanceP : Type 0

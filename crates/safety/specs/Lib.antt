@@ -1,2 +1,3 @@
+pub mod Touched
 pub mod Safety
 pub mod Instance

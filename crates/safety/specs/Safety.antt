@@ -8,6 +8,7 @@ use Rattle.units.specs.Address.{memoryBytes}
 use Rattle.units.specs.Bytes.{byteAt}
 use Rattle.isa.specs.declared.decoder.Decoded.the-variants.{Defined}
 use Rattle.isa.specs.declared.instruction.Instruction.{Instruction}
+use Rattle.isa.specs.declared.instruction.Instruction.the-variants.{Halt}
 use Rattle.image.specs.declared.checker.Layout.{Layout}
 use Rattle.verifier.specs.Access.{Access, accessOf}
 use Rattle.verifier.specs.Verify.{verifyOf}
@@ -16,10 +17,12 @@ use Rattle.cpu.specs.declared.machine.Machine.{Machine}
 use Rattle.cpu.specs.declared.outcome.Outcome.the-variants as step
 use Rattle.runner.specs.declared.runs.RunOutcome.the-variants as run
 use Rattle.cpu.specs.Machine.{reg, pc}
-use Rattle.cpu.specs.Step.{State, effectiveAddress, fetched, stepOf}
+use Rattle.cpu.specs.Step.{State, fetched}
 use Rattle.runner.specs.Run.{RunResult, stateAfter, runOf}
+use Rattle.cpu_laws.specs.Course.{state, outcomeAt}
 use Rattle.loader.specs.Load.{codeByte, loadOf, memoryAfterLoad}
 use Rattle.loader.specs.declared.loader.Loaded.the-variants.{Done}
+use Rattle.safety.specs.Touched.{dataAddress}
 
 -- a start: any registers of 16 bits and any flags, the PC at 0
 pub record Start (m : Machine) : Type 0 where
@@ -39,18 +42,19 @@ InWindow layout a size = (layout .«window_start» ≤ a) × (a + size ≤ layou
 
 -- the data of a load or store lie in the window, at a multiple of 4 where they are a halfword
 pub record SafeAccess (layout : Layout) (m : Machine) (access : Access) : Type 0 where
-  pub inside : 0 < access .size → InWindow layout (effectiveAddress m (access .base) (access .offset)) (access .size)
-  pub aligned : access .size ≡ 2 → effectiveAddress m (access .base) (access .offset) % 4 ≡ 0
+  pub inside : 0 < access .size → InWindow layout (dataAddress m access) (access .size)
+  pub aligned : access .size ≡ 2 → dataAddress m access % 4 ≡ 0
 
--- a state of the run: its instruction is fetched from the code and defined, its data are in the window, no stop comes next, and every byte
--- outside the window is as it was at the start
+-- a state of the run: its instruction is fetched from the code and defined, its data are in the window, no stop comes next, memory has all its
+-- bytes, and each outside the window is as it was at the start
 pub record SafeState (layout : Layout) (memory : List ℕ) (s : State) : Type 0 where
   pub even : pc (s .machine) % 2 ≡ 0
   pub fetch : pc (s .machine) + 2 ≤ layout .«code_bytes»
   pub instruction : Instruction
   pub defined : fetched (s .machine) (s .memory) ≡ Defined instruction
   pub access : SafeAccess layout (s .machine) (accessOf instruction)
-  pub goes-on : (stepOf (s .machine) (s .memory) .outcome ≡ step.Completed) ⊎ (stepOf (s .machine) (s .memory) .outcome ≡ step.Halted)
+  pub goes-on : (outcomeAt s ≡ step.Completed) ⊎ (outcomeAt s ≡ step.Halted)
+  pub size : length (s .memory) ≡ memoryBytes
   pub kept : (a : ℕ) → (InWindow layout a 1 → ⊥) → byteAt (s .memory) a ≡ byteAt memory a
 
 -- the window of two memories is the same
@@ -64,12 +68,24 @@ pub record SameResult (layout : Layout) (r q : RunResult) : Type 0 where
   pub outcome : r .outcome ≡ q .outcome
   pub count : r .count ≡ q .count
 
--- a whole run: each state is safe, from the start to the last; it ends by HALT or a spent budget; and nothing outside code and window has a part
--- in it
+-- a run ends by HALT, which its last state fetches with some of the budget left
+pub record EndsByHalt (budget : ℕ) (r : RunResult) : Type 0 where
+  pub outcome : r .outcome ≡ run.Halted
+  pub left : r .count < budget
+  pub halt : fetched (r .state .machine) (r .state .memory) ≡ Defined Halt
+
+-- or it ends spent, when as many steps are completed as the budget has
+pub record EndsSpent (budget : ℕ) (r : RunResult) : Type 0 where
+  pub outcome : r .outcome ≡ run.Spent
+  pub all : r .count ≡ budget
+
+-- a whole run: each state is safe, from the start to the last, and each but the last completes its step; it ends by HALT or spent; and nothing
+-- outside code and window has a part in it
 pub record SafeRun (file : List ℕ) (layout : Layout) (m : Machine) (memory : List ℕ) (budget : ℕ) : Type 0 where
-  pub states : (k : ℕ) → k ≤ runOf budget m memory .count → SafeState layout memory (stateAfter k (record { machine = m; memory = memory }))
-  pub last : runOf budget m memory .state ≡ stateAfter (runOf budget m memory .count) (record { machine = m; memory = memory })
-  pub ends : (runOf budget m memory .outcome ≡ run.Halted) ⊎ (runOf budget m memory .outcome ≡ run.Spent)
+  pub states : (k : ℕ) → k ≤ runOf budget m memory .count → SafeState layout memory (stateAfter k (state m memory))
+  pub completed : (k : ℕ) → k < runOf budget m memory .count → outcomeAt (stateAfter k (state m memory)) ≡ step.Completed
+  pub last : runOf budget m memory .state ≡ stateAfter (runOf budget m memory .count) (state m memory)
+  pub ends : EndsByHalt budget (runOf budget m memory) ⊎ EndsSpent budget (runOf budget m memory)
   pub alike : (other : List ℕ) → HoldsCode file layout other → SameWindow layout memory other
       → SameResult layout (runOf budget m memory) (runOf budget m other)
 

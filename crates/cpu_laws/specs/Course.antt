@@ -1,0 +1,47 @@
+-- What is claimed of a step and of a run as a whole ("One step"): a step that doesn't complete changes nothing, and a run is its steps, one after
+-- the other.
+use mathlib.Core.List.{List}
+use mathlib.Core.Logic.{_⊎_}
+use mathlib.Core.Path.{_≡_}
+use Prim.Native.Nat.{ℕ, _<_, _≤_}
+use lib.ListN.{length}
+use Rattle.units.specs.Address.{memoryBytes}
+use Rattle.cpu.specs.declared.machine.Machine.{Machine}
+use Rattle.cpu.specs.declared.outcome.Outcome.{Outcome}
+use Rattle.cpu.specs.declared.outcome.Outcome.the-variants.{Completed, Halted, Stopped, Refused}
+use Rattle.runner.specs.declared.runs.RunOutcome.{RunOutcome}
+use Rattle.runner.specs.declared.runs.RunOutcome.the-variants as run
+use Rattle.cpu.specs.Step.{State, stepOf}
+use Rattle.runner.specs.Run.{RunResult, nextState, stateAfter, runOf}
+
+abbrev pub state : Machine → List ℕ → State
+state m memory = record { machine = m; memory = memory }
+
+-- how the step at a state ends
+abbrev pub outcomeAt : State → Outcome
+outcomeAt s = stepOf (s .machine) (s .memory) .outcome
+
+-- a step completes, or leaves registers, flags and memory as they were
+abbrev pub StepWhole : Type 0
+StepWhole = (s : State) → (outcomeAt s ≡ Completed) ⊎ (nextState s ≡ s)
+
+-- a step that ends so, and doesn't complete, ends the run so
+abbrev pub EndsAs : Outcome → RunOutcome → Type 0
+EndsAs Completed r = ⊥
+EndsAs Halted r = r ≡ run.Halted
+EndsAs (Stopped number) r = r ≡ run.Stopped number
+EndsAs (Refused q) r = r ≡ run.Refused q
+
+-- the course of a run from s: so many steps, each of which completes, lead to its result. It ends where the budget is spent, or before that as the
+-- next step would
+pub record Course (budget : ℕ) (s : State) (r : RunResult) (steps : ℕ) : Type 0 where
+  pub within : steps ≤ budget
+  pub last : r .state ≡ stateAfter steps s
+  pub completed : (k : ℕ) → k < steps → outcomeAt (stateAfter k s) ≡ Completed
+  pub end : ((r .outcome ≡ run.Spent) × (steps ≡ budget)) ⊎ ((steps < budget) × EndsAs (outcomeAt (stateAfter steps s)) (r .outcome))
+
+-- the steps of a run are as many as it counts
+abbrev pub RunCourse : Type 0
+RunCourse =
+    (budget : ℕ) (m : Machine) (memory : List ℕ) → length memory ≡ memoryBytes
+    → Course budget (state m memory) (runOf budget m memory) (runOf budget m memory .count)
