@@ -15,8 +15,8 @@ use Rattle.cpu.specs.declared.outcome.Outcome.the-variants.{Completed, Halted, 
 use Rattle.runner.specs.declared.runs.RunOutcome.{RunOutcome}
 use Rattle.runner.specs.declared.runs.RunOutcome.the-variants as run
 use Rattle.cpu.specs.Step.{State}
-use Rattle.runner.specs.Run.{RunResult, nextState, stateAfter, goOn, runFrom, runOf}
-use Rattle.cpu_laws.specs.Course.{state, outcomeAt, EndsAs, Course, RunCourse}
+use Rattle.runner.specs.Run.{RunResult, state, outcomeAt, nextState, stateAfter, goOn, runFrom, runOf}
+use Rattle.cpu_laws.specs.Course.{EndsAs, Course, RunCourse}
 use Rattle.cpu_laws.proofs.Steps.{step-whole}
 
 -- one step on from the first state, or from the last

@@ -20,9 +20,8 @@ use Rattle.cpu.specs.declared.outcome.Outcome.the-variants.{Refused}
 use Rattle.cpu.specs.Machine.{reg, pc, flags, machine, advanced, written}
 use Rattle.cpu.specs.Alu.{negative, shiftedOf, shiftOf, conditionOf}
 use Rattle.cpu.specs.Step.{State, StepResult, stepResult, completed, stopped, effectiveAddress, aligned, addHighOf, addPcOf, andOf, asrOf, branchOf, cmpImmOf, cmpOf, cmpHighOf, eorOf, ldrOf, ldrbOf, movImmOf, movHighOf, negOf, strOf, strbOf, tstOf, executeOf, executeDecoded, fetched, fetchAndExecute, stepOf}
-use Rattle.runner.specs.Run.{nextState, stateAfter}
+use Rattle.runner.specs.Run.{state, nextState, stateAfter}
 use Rattle.isa_laws.proofs.Narrow.{Narrow, decoded-narrow}
-use Rattle.cpu_laws.specs.Course.{state}
 use Rattle.cpu_laws.specs.Sizes.{Row, Registers, Bytes, Sized, StatesSized}
 use Rattle.cpu_laws.proofs.Steps.{cond-keeps}
 

@@ -18,7 +18,8 @@ use Rattle.cpu.specs.declared.machine.Machine.{Machine}
 use Rattle.cpu.specs.declared.outcome.Outcome.the-variants.{Completed, Refused}
 use Rattle.cpu.specs.Machine.{pc, flags, machine, advanced, written, reg}
 use Rattle.cpu.specs.Step.{StepResult, stepResult, completed, stopped, effectiveAddress, aligned, ldrOf, strOf, strbOf, executeOf, executeDecoded, fetched, fetchAndExecute, stepOf}
-use Rattle.cpu_laws.specs.Course.{state, StepWhole}
+use Rattle.runner.specs.Run.{state}
+use Rattle.cpu_laws.specs.Course.{StepWhole}
 
 -- what holds of both arms of a test holds of the test's
 pub cond-keeps : {A : Type 0} (Q : A → Type 0) (test : Bool) (x y : A) → Q x → Q y → Q (cond test x y)

@@ -11,15 +11,8 @@ use Rattle.cpu.specs.declared.outcome.Outcome.{Outcome}
 use Rattle.cpu.specs.declared.outcome.Outcome.the-variants.{Completed, Halted, Stopped, Refused}
 use Rattle.runner.specs.declared.runs.RunOutcome.{RunOutcome}
 use Rattle.runner.specs.declared.runs.RunOutcome.the-variants as run
-use Rattle.cpu.specs.Step.{State, stepOf}
-use Rattle.runner.specs.Run.{RunResult, nextState, stateAfter, runOf}
-
-abbrev pub state : Machine → List ℕ → State
-state m memory = record { machine = m; memory = memory }
-
--- how the step at a state ends
-abbrev pub outcomeAt : State → Outcome
-outcomeAt s = stepOf (s .machine) (s .memory) .outcome
+use Rattle.cpu.specs.Step.{State}
+use Rattle.runner.specs.Run.{RunResult, state, outcomeAt, nextState, stateAfter, runOf}
 
 -- a step completes, or leaves registers, flags and memory as they were
 abbrev pub StepWhole : Type 0

@@ -20,13 +20,10 @@ use Rattle.runner.specs.declared.runs.RunOutcome.the-variants.{Spent, Re
 use Rattle.cpu.specs.declared.outcome.Outcome.{Outcome}
 use Rattle.cpu.specs.declared.outcome.Outcome.the-variants.{Completed, Halted, Stopped, Refused}
 use Rattle.cpu.specs.Step.{State, StepResult, stepResult, fetchAndExecute, stepOf}
-use Rattle.runner.specs.Run.{RunResult, runResult, goOn, runFrom, runOf}
+use Rattle.runner.specs.Run.{RunResult, runResult, state, goOn, runFrom, runOf}
 use Rattle.cpu.specs.Held.{held, Leads}
 use Rattle.runner.specs.Ends.{asRun}
 use Rattle.cpu.proofs.outcome.Outcome.{the-type}
-
-abbrev pub state : Machine → List ℕ → State
-state m memory = record { machine = m; memory = memory }
 
 pub run-refused : (budget : ℕ) (m : Machine) (memory : List ℕ) (r : Refusal) → (length memory ≡ memoryBytes → ⊥) → r ≡ refusal 1
     → runResult m memory (RunRefused r) 0 ≡ runOf budget m memory

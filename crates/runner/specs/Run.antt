@@ -13,6 +13,13 @@ use Rattle.runner.specs.declared.runs.RunOutcome.{RunOutcome}
 use Rattle.runner.specs.declared.runs.RunOutcome.the-variants as ended
 use Rattle.cpu.specs.Step.{State, stepOf}
 
+abbrev pub state : Machine → List ℕ → State
+state m memory = record { machine = m; memory = memory }
+
+-- how the step at a state ends
+abbrev pub outcomeAt : State → Outcome
+outcomeAt s = stepOf (s .machine) (s .memory) .outcome
+
 -- one step further; a state whose step doesn't complete stays as it is
 abbrev pub nextState : State → State
 nextState s = stepOf (s .machine) (s .memory) .state
@@ -29,7 +36,7 @@ pub record RunResult : Type 0 where
   pub count : ℕ
 
 abbrev pub runResult : Machine → List ℕ → RunOutcome → ℕ → RunResult
-runResult m memory outcome count = record { state = record { machine = m; memory = memory }; outcome = outcome; count = count }
+runResult m memory outcome count = record { state = state m memory; outcome = outcome; count = count }
 
 -- after a step: on where it completed, else the run ends as the step did, with the steps completed before
 abbrev pub goOn : Outcome → State → ℕ → RunResult → RunResult
@@ -42,11 +49,11 @@ goOn (Refused r) s count rest = record { state = s; outcome = ended.Refused r; c
 unfoldable pub runFrom : ℕ → ℕ → State → RunResult
 runFrom zero count s = record { state = s; outcome = ended.Spent; count = count }
 runFrom (suc left) count s =
-    goOn (stepOf (s .machine) (s .memory) .outcome) (nextState s) count (runFrom left (count + 1) (nextState s))
+    goOn (outcomeAt s) (nextState s) count (runFrom left (count + 1) (nextState s))
 
 -- check 1 comes first, whatever the budget
 unfoldable pub runOf : ℕ → Machine → List ℕ → RunResult
 runOf budget m memory =
     cond (eqb (length memory) memoryBytes)
-    (runFrom budget 0 (record { machine = m; memory = memory }))
+    (runFrom budget 0 (state m memory))
     (runResult m memory (ended.Refused (refusal 1)) 0)

@@ -20,13 +20,13 @@ use Rattle.cpu.specs.declared.outcome.Outcome.the-variants.{Completed}
 use Rattle.runner.specs.declared.runs.RunOutcome.{RunOutcome}
 use Rattle.runner.specs.declared.runs.RunOutcome.the-variants as run
 use Rattle.cpu.specs.Step.{State, fetched}
-use Rattle.runner.specs.Run.{RunResult, nextState, stateAfter, runFrom, runOf}
+use Rattle.runner.specs.Run.{RunResult, state, outcomeAt, nextState, stateAfter, runFrom, runOf}
 use Rattle.loader.specs.Load.{codeByte}
 use Rattle.safety.specs.Safety.{Start, HoldsCode, SafeState, EndsByHalt, SafeRun, Demand3, LoadHolds}
 use Rattle.safety.proofs.Fitness.{FitCode, fit-code}
 use Rattle.safety.proofs.Invariant.{Inv, HoldsHalfwords, arrive, fetched-is, safe-access, next}
 use Rattle.safety.proofs.Registers.{unknown-holds}
-use Rattle.cpu_laws.specs.Course.{state, outcomeAt, EndsAs}
+use Rattle.cpu_laws.specs.Course.{EndsAs}
 use Rattle.cpu_laws.specs.Sizes.{Registers}
 use Rattle.cpu_laws.proofs.Course.{halted-other, run-course, run-keeps}
 use Rattle.safety.proofs.Loads.{was-fit, after-load, loaded-holds}

@@ -26,8 +26,7 @@ use Rattle.cpu.specs.declared.machine.Machine.{Machine}
 use Rattle.cpu.specs.declared.outcome.Outcome.the-variants.{Completed, Halted}
 use Rattle.cpu.specs.Machine.{pc}
 use Rattle.cpu.specs.Step.{State, StepResult, executeOf, fetched, stepOf}
-use Rattle.runner.specs.Run.{nextState}
-use Rattle.cpu_laws.specs.Course.{outcomeAt}
+use Rattle.runner.specs.Run.{outcomeAt, nextState}
 use Rattle.cpu_laws.specs.Sizes.{Registers, Sized}
 use Rattle.cpu_laws.proofs.Steps.{step-decoded}
 use Rattle.cpu_laws.proofs.Course.{halted-other}

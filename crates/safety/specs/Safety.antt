@@ -18,8 +18,7 @@ use Rattle.cpu.specs.declared.outcome.Outcome.the-variants as step
 use Rattle.runner.specs.declared.runs.RunOutcome.the-variants as run
 use Rattle.cpu.specs.Machine.{reg, pc}
 use Rattle.cpu.specs.Step.{State, fetched}
-use Rattle.runner.specs.Run.{RunResult, stateAfter, runOf}
-use Rattle.cpu_laws.specs.Course.{state, outcomeAt}
+use Rattle.runner.specs.Run.{RunResult, state, outcomeAt, stateAfter, runOf}
 use Rattle.loader.specs.Load.{codeByte, loadOf, memoryAfterLoad}
 use Rattle.loader.specs.declared.loader.Loaded.the-variants.{Done}
 use Rattle.safety.specs.Touched.{dataAddress}

@@ -5,9 +5,9 @@ use Prim.Native.Nat.{_≤_, _-_}
 use lib.ListN.{length}
 use mathlib.Core.Path.{_≡_, sym, _∙_}
 use Rattle.units.specs.Address.{memoryBytes}
-use Rattle.runner.specs.Run.{runFrom}
+use Rattle.runner.specs.Run.{state, runFrom}
 use Rattle.cpu.specs.Held.{held, Whole}
-use Rattle.runner.proofs.Turns.{state, run-refused, run-starts, run-spent, run-ends, run-again}
+use Rattle.runner.proofs.Turns.{run-refused, run-starts, run-spent, run-ends, run-again}
 use Rattle.runner.proofs.runs.run.Statement.{statement}
 use Rattle.runner.proofs.runs.run.Tie as tie
 
