@@ -19,7 +19,7 @@ ghost use lib.ListN.{length};
 ghost use Rattle.units.specs.Address.{memoryBytes};
 ghost use Rattle.units.specs.Field.{field};
 ghost use Rattle.isa.specs.Decode.{haltOf, aluOf, highOf, registersOf, branchOf, decodeOf};
-ghost use Rattle.cpu.specs.Step.{executeDecoded, fetchAndExecute};
+ghost use Rattle.cpu.specs.Step.{stepResult, executeDecoded, fetchAndExecute};
 ghost use Rattle.cpu.specs.Held.{held, Whole, Leads, Above, Beside};
 
 // HALT, or a halfword that only begins like it.
@@ -126,7 +126,7 @@ fn execute(regs: &mut [u16; 16], k: Control, memory: &mut [u8], h: u16) -> Execu
 // One step, with a memory of the right size.
 pub fn fetch_and_execute(regs: &mut [u16; 16], k: Control, memory: &mut [u8]) -> Executed
     requires { ⌜ Whole (now regs) × (length (now memory) ≡ memoryBytes) ⌝ }
-    ensures { λ r. ⌜ Leads (now (regs .exit)) r (now (memory .exit)) (fetchAndExecute (held (now (regs .entry)) k) (now (memory .entry))) ⌝ }
+    ensures { λ r. ⌜ (stepResult (held (now (regs .exit)) (r .control)) (now (memory .exit)) (r .outcome) ≡ fetchAndExecute (held (now (regs .entry)) k) (now (memory .entry))) × Whole (now (regs .exit)) ⌝ }
 {
     if k.pc % 2 != 0 {
         return stopped(k, ODD_PC);

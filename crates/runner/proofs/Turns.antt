@@ -21,7 +21,7 @@ use Rattle.cpu.specs.declared.outcome.Outcome.{Outcome}
 use Rattle.cpu.specs.declared.outcome.Outcome.the-variants.{Completed, Halted, Stopped, Refused}
 use Rattle.cpu.specs.Step.{State, StepResult, stepResult, fetchAndExecute, stepOf}
 use Rattle.runner.specs.Run.{RunResult, runResult, state, goOn, runFrom, runOf}
-use Rattle.cpu.specs.Held.{held, Leads}
+use Rattle.cpu.specs.Held.{held}
 use Rattle.runner.specs.Ends.{asRun}
 use Rattle.cpu.proofs.outcome.Outcome.{the-type}
 
@@ -33,10 +33,14 @@ run-refused budget m memory r wrong is = simp (ne-eqb (length memory) memoryByte
 pub run-starts : (budget : ℕ) (s : State) → runFrom (budget - 0) 0 s ≡ runFrom budget 0 s
 run-starts budget s = let z : budget - 0 ≡ budget = omega arith in rw z
 
+-- what a step on a machine that is held says of itself
+abbrev pub Steps : List ℕ → List ℕ → Control → List ℕ → Executed → List ℕ → Type 0
+Steps regs memory k regs′ e memory′ = stepResult (held regs′ (e .control)) memory′ (e .outcome) ≡ fetchAndExecute (held regs k) memory
+
 one-step : (regs memory regs′ memory′ : List ℕ) (k : Control) (e : Executed) → length memory ≡ memoryBytes
-    → Leads regs′ e memory′ (fetchAndExecute (held regs k) memory) → stepOf (held regs k) memory ≡ stepResult (held regs′ (e .control)) memory′ (e .outcome)
+    → Steps regs memory k regs′ e memory′ → stepOf (held regs k) memory ≡ stepResult (held regs′ (e .control)) memory′ (e .outcome)
 unfolding stepOf
-one-step regs memory regs′ memory′ k e right leads = simp (eq-eqb (length memory) memoryBytes right) (sym (leads .result))
+one-step regs memory regs′ memory′ k e right leads = simp (eq-eqb (length memory) memoryBytes right) (sym leads)
 
 turn : (left count : ℕ) (s : State) (r : StepResult) → stepOf (s .machine) (s .memory) ≡ r
     → runFrom (suc left) count s ≡ goOn (r .outcome) (r .state) count (runFrom left (count + 1) (r .state))
@@ -83,7 +87,7 @@ module _ (budget : ℕ) (m₀ : Machine) (memory₀ : List ℕ) (right₀ : leng
 
     -- one more turn, where the step doesn't complete
     pub run-ends : (r : Ran) (regs′ memory′ : List ℕ) (e : Executed) → count < budget → length memory ≡ memoryBytes
-        → Leads regs′ e memory′ (fetchAndExecute (held regs k) memory) → Last (e .outcome) → Ends r regs′ (e .control) (asRun (e .outcome)) count
+        → Steps regs memory k regs′ e memory′ → Last (e .outcome) → Ends r regs′ (e .control) (asRun (e .outcome)) count
         → runResult (r .machine) memory′ (r .outcome) (r .count) ≡ runOf budget m₀ memory₀
     run-ends r regs′ memory′ e more right leads last ends =
         let t : budget - count ≡ suc (budget - (count + 1)) = omega arith in
@@ -95,7 +99,7 @@ module _ (budget : ℕ) (m₀ : Machine) (memory₀ : List ℕ) (right₀ : leng
 
 -- one more turn, where it completes
 pub run-again : (budget : ℕ) (regs memory regs′ memory′ : List ℕ) (k : Control) (count : ℕ) (e : Executed) (all : RunResult)
-    → count < budget → length memory ≡ memoryBytes → Leads regs′ e memory′ (fetchAndExecute (held regs k) memory) → e .outcome ≡ Completed
+    → count < budget → length memory ≡ memoryBytes → Steps regs memory k regs′ e memory′ → e .outcome ≡ Completed
     → runFrom (budget - count) count (state (held regs k) memory) ≡ all
     → runFrom (budget - (count + 1)) (count + 1) (state (held regs′ (e .control)) memory′) ≡ all
 run-again budget regs memory regs′ memory′ k count e all more right leads completed left =

@@ -36,10 +36,27 @@ run-spec =
     (λ c. search needs)
     (λ c. search needs)
     (λ c. search needs)
-    (λ c. (omega arith, c .before .before .before .before .before .before .before .before .before .loop .inv .1, c .before .before .before .before .before .fetch-and-execute .kept .1 .1 .0 ∙ c .before .before .before .before .before .before .before .before .before .loop .inv .2, c .before .before .before .before .before .fetch-and-execute .ensures .whole, run-again _ (c .before .before .before .before .before .before .before .before .before .loop .regs) _ _ _ (c .before .before .before .before .before .before .before .before .before .loop .k) (c .before .before .before .before .before .before .before .before .before .loop .count) (c .before .before .before .before .before .fetch-and-execute .result) _ (c .before .before .before .before .before .before .before .before .loop-test .taken) (c .before .before .before .before .before .before .before .before .before .loop .inv .2) (c .before .before .before .before .before .fetch-and-execute .ensures) (c .enum-told .given .1) (c .before .before .before .before .before .before .before .before .before .loop .inv .4)))
+    (λ c.
+    let turn = c .before .before .before .before .before .before .before .before .before .loop in
+    let more = c .before .before .before .before .before .before .before .before .loop-test .taken in
+    let step = c .before .before .before .before .before .fetch-and-execute in
+    let kept = step .kept .1 .1 .0 in
+    (omega arith, turn .inv .1, kept ∙ turn .inv .2, step .ensures .1, run-again _ (turn .regs) _ (step .last .0) _ (turn .k) (turn .count) (step .result) _ more (turn .inv .2) (step .ensures .0) (c .enum-told .given .1) (turn .inv .4)))
     (λ c κs. search needs)
-    (λ c. c .before .before .before .before .before .fetch-and-execute .kept .1 .1 .0 ∙ (c .before .before .before .before .before .before .before .before .before .loop .inv .2 ∙ sym (c .before .before .before .before .before .before .before .before .before .loop .inv .1)))
-    (λ c. run-ends _ _ _ (c .before .before .before .before .before .before .before .before .before .loop .inv .1) (c .before .before .before .before .before .before .before .before .before .before .before .before .before .before .args .m .regs) (c .before .before .before .before .before .before .before .before .before .loop .regs) _ (c .before .before .before .before .before .before .before .before .before .before .control-of .result) (c .before .before .before .before .before .before .before .before .before .loop .k) (c .before .before .before .before .before .before .before .before .before .loop .count) (c .before .before .before .before .before .before .before .before .before .before .control-of .ensures) (c .before .before .before .before .before .before .before .before .before .loop .inv .4) (c .ended .result) _ _ (c .before .before .before .before .before .fetch-and-execute .result) (c .before .before .before .before .before .before .before .before .loop-test .taken) (c .before .before .before .before .before .before .before .before .before .loop .inv .2) (c .before .before .before .before .before .fetch-and-execute .ensures) (c .before .match .keys2) (c .ended .ensures))
+    (λ c.
+    let turn = c .before .before .before .before .before .before .before .before .before .loop in
+    c .before .before .before .before .before .fetch-and-execute .kept .1 .1 .0 ∙ (turn .inv .2 ∙ sym (turn .inv .1)))
+    (λ c.
+    let start = c .before .before .before .before .before .before .before .before .before .before .before .before .before .before in
+    let control = c .before .before .before .before .before .before .before .before .before .before .control-of in
+    let turn = c .before .before .before .before .before .before .before .before .before .loop in
+    let more = c .before .before .before .before .before .before .before .before .loop-test .taken in
+    let step = c .before .before .before .before .before .fetch-and-execute in
+    run-ends _ _ _ (turn .inv .1) (start .args .m .regs) (turn .regs) _ (control .result) (turn .k) (turn .count) (control .ensures) (turn .inv .4) (c .ended .result) (step .last .0) _ (step .result) more (turn .inv .2) (step .ensures .0) (c .before .match .keys2) (c .ended .ensures))
     (λ c κs. search needs)
     (λ c. c .before .before .loop .inv .2 ∙ sym (c .before .before .loop .inv .1))
-    (λ c. run-spent _ _ _ (c .before .before .loop .inv .1) (c .before .before .before .before .before .before .before .args .m .regs) (c .before .before .loop .regs) _ (c .before .before .before .control-of .result) (c .before .before .loop .k) (c .before .before .loop .count) (c .before .before .before .control-of .ensures) (c .before .before .loop .inv .4) (c .ended2 .result) (c .before .loop-test .left) (c .ended2 .ensures)))
+    (λ c.
+    let start = c .before .before .before .before .before .before .before in
+    let control = c .before .before .before .control-of in
+    let turn = c .before .before .loop in
+    run-spent _ _ _ (turn .inv .1) (start .args .m .regs) (turn .regs) _ (control .result) (turn .k) (turn .count) (control .ensures) (turn .inv .4) (c .ended2 .result) (c .before .loop-test .left) (c .ended2 .ensures)))
