@@ -39,7 +39,7 @@ enum {
  * refused call has changed nothing. 18 to 20 are stops of the machine, 255 is its HALT.
  */
 enum paw_number {
-    PAW_OK = 0,             /* passed, packed, step completed, or budget spent */
+    PAW_OK = 0,             /* passed, packed, read, step completed, or budget spent */
     PAW_MEMORY_SIZE = 1,    /* the memory does not have PAW_MEMORY_BYTES */
     PAW_FILE_LENGTH = 2,    /* the file is not 1 to 64 whole blocks */
     PAW_BLOCK_MARK = 3,     /* the block does not start with the mark 0xD0C1 */
@@ -187,7 +187,7 @@ uint64_t paw_verify(const uint8_t *file, size_t len);
  */
 uint64_t paw_load(const uint8_t *file, size_t len, uint8_t *memory, size_t memory_len);
 
-/* The number of an answer of paw_check, paw_verify or paw_load: PAW_OK or a refusal. */
+/* The number of an answer of paw_check, paw_verify, paw_load or paw_block: PAW_OK or a refusal. */
 static inline uint16_t paw_answer_number(uint64_t answer)
 {
     return (uint16_t)answer;
@@ -202,30 +202,46 @@ static inline uint16_t paw_answer_place(uint64_t answer)
     return (uint16_t)(answer >> 16);
 }
 
-/* Of an answer whose number is PAW_OK: the length of the code in bytes. */
+/* Of a layout, an answer whose number is PAW_OK: the length of the code in bytes. */
 static inline uint16_t paw_answer_code_bytes(uint64_t answer)
 {
     return (uint16_t)(answer >> 16);
 }
 
-/* Of an answer whose number is PAW_OK: the byte address at which the window starts. */
+/* Of a layout: the byte address at which the window starts. */
 static inline uint16_t paw_answer_window_start(uint64_t answer)
 {
     return (uint16_t)(answer >> 32);
 }
 
-/* Of an answer whose number is PAW_OK: the length of the window in bytes. */
+/* Of a layout: the length of the window in bytes. */
 static inline uint16_t paw_answer_window_bytes(uint64_t answer)
 {
     return (uint16_t)(answer >> 48);
 }
 
 /*
- * What a reader of the file gives at its call number n, counted from 0. Answers PAW_BLOCK_BYTES
- * if that is a block, which stands at byte n * PAW_BLOCK_BYTES of the file, or 0 if none is left
- * or the file is refused by checks 2 to 8.
+ * Puts checks 2 to 8 to an image file, then answers what a reader of it gives at its call number
+ * n, counted from 0. One of three:
+ * - the file is refused: the number and place of the refusal, at every n;
+ * - a block: PAW_OK, where the block starts in the file, and its PAW_BLOCK_BYTES bytes;
+ * - none is left, which is said only after the last block: PAW_OK, and 0 bytes.
+ * An accepted file has len / PAW_BLOCK_BYTES blocks, block n from byte n * PAW_BLOCK_BYTES on: who
+ * reads them all needs one call.
  */
-size_t paw_block(const uint8_t *file, size_t len, size_t n);
+uint64_t paw_block(const uint8_t *file, size_t len, size_t n);
+
+/* Of an answer of paw_block that is a block: the byte of the file at which the block starts. */
+static inline size_t paw_block_start(uint64_t answer)
+{
+    return (uint16_t)(answer >> 16);
+}
+
+/* Of an answer of paw_block whose number is PAW_OK: PAW_BLOCK_BYTES, or 0 if none is left. */
+static inline size_t paw_block_bytes(uint64_t answer)
+{
+    return (uint16_t)(answer >> 32);
+}
 
 /* Bytes of the image of so many halfwords of code: the output that paw_pack asks for. */
 static inline size_t paw_image_bytes(size_t code_len)

@@ -103,9 +103,38 @@ static void test_checking(void)
     EXPECT(paw_answer_window_bytes(answer) == WINDOW_BYTES);
     EXPECT(paw_check(file, sizeof file - 1) == PAW_FILE_LENGTH);
 
-    EXPECT(paw_block(file, sizeof file, 0) == PAW_BLOCK_BYTES);
-    EXPECT(paw_block(file, sizeof file, 1) == 0);
-    EXPECT(paw_block(file, sizeof file - 1, 0) == 0);
+}
+
+/* A reader's three answers: a block, none left, refused. */
+static void test_reading(void)
+{
+    static uint16_t long_code[PAW_BLOCK_CODE + 1];
+    static uint8_t two[2 * PAW_BLOCK_BYTES];
+    EXPECT(paw_image_bytes(PAW_BLOCK_CODE + 1) == sizeof two);
+    EXPECT(paw_pack(long_code, PAW_BLOCK_CODE + 1, 1024, 4, two, sizeof two) == PAW_OK);
+
+    for (size_t n = 0; n < 2; n++) {
+        uint64_t block = paw_block(two, sizeof two, n);
+        EXPECT(paw_answer_number(block) == PAW_OK);
+        EXPECT(paw_block_start(block) == n * PAW_BLOCK_BYTES);
+        EXPECT(paw_block_bytes(block) == PAW_BLOCK_BYTES);
+        EXPECT(two[paw_block_start(block) + 2] == n); /* the block's own number */
+    }
+
+    const size_t past[] = {2, 3, (size_t)1 << 55, SIZE_MAX};
+    for (size_t i = 0; i < sizeof past / sizeof past[0]; i++) {
+        uint64_t none = paw_block(two, sizeof two, past[i]);
+        EXPECT(paw_answer_number(none) == PAW_OK && paw_block_bytes(none) == 0);
+        EXPECT(none == 0);
+    }
+
+    two[PAW_BLOCK_BYTES] ^= 1;
+    for (size_t n = 0; n < 4; n++) {
+        uint64_t refused = paw_block(two, sizeof two, n);
+        EXPECT(paw_answer_number(refused) == PAW_BLOCK_MARK && paw_answer_place(refused) == 1);
+        EXPECT(refused == paw_check(two, sizeof two));
+    }
+    EXPECT(paw_block(two, sizeof two - 1, 0) == PAW_FILE_LENGTH);
 }
 
 static void test_verifying(void)
@@ -187,6 +216,7 @@ int main(void)
     test_instructions();
     test_packing();
     test_checking();
+    test_reading();
     test_verifying();
     test_loading();
     test_running();

@@ -5,6 +5,7 @@ use super::console::print_verdict;
 use cpu::Machine;
 use image::Checked;
 use loader::Loaded;
+use reader::Given;
 use runner::RunOutcome;
 use verifier::Verdict;
 
@@ -23,10 +24,9 @@ fn cleared() -> Machine {
 fn count_blocks(file: &[u8]) -> u64 {
     let mut n: usize = 0;
     while n < image::MOST_BLOCKS {
-        let block = reader::given_at(file, n);
-        if block.len() == 0 {
+        let Given::Block(_) = reader::given_at(file, n) else {
             return n as u64;
-        }
+        };
         n += 1;
     }
     image::MOST_BLOCKS as u64

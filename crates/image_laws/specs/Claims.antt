@@ -3,16 +3,19 @@ use mathlib.Core.Path.{_≡_}
 use mathlib.Core.List.{List, [], _∷_}
 use Prim.Native.Nat.{ℕ, zero, suc, _*_, _≤_, _<_}
 use lib.ListN.{length, getD}
+use denote.Ref.{RefT, now}
 use Rattle.refusals.specs.declared.refusal.Refusal.{Refusal}
 use Rattle.image.specs.Format.{blockBytes}
 use Rattle.image.specs.Block.{blocksIn, blockOf, halfword}
 use Rattle.image.specs.Code.{codeOf}
-use Rattle.image.specs.Check.{checkOf}
-use Rattle.reader.specs.Reader.{partOf, afterOf, startOf, givenOf}
+use Rattle.image.specs.Check.{layoutOf, checkOf}
+use Rattle.reader.specs.Reader.{givenOf, bytesOf, openOf, answerOf, nextOf, afterNext}
 use Rattle.packer.specs.Pack.{imageOf, packOf, outputOf}
 use Rattle.image.specs.declared.checker.Layout.{Layout}
 use Rattle.image.specs.declared.checker.Checked.the-variants.{Valid, Refused}
 use Rattle.packer.specs.declared.packer.Packed.the-variants.{Done}
+use Rattle.reader.specs.declared.reader.BlockReader.{BlockReader}
+use Rattle.reader.specs.declared.reader.Given.the-variants as given
 
 abbrev pub layout : ℕ → ℕ → ℕ → Layout
 layout c w l = record { «code_bytes» = c; «window_start» = w; «window_length» = l }
@@ -33,24 +36,41 @@ CheckThenPack =
     (file : List ℕ) (c w l : ℕ) (out : List ℕ) → Bytes file → checkOf file ≡ Valid (layout c w l) → length out ≡ length file
     → (packOf (codeOf file) w l (length out) ≡ Done) × (outputOf (codeOf file) w l out ≡ file)
 
--- the number of the block that comes next when a file's reader has been called n times
-unfoldable pub numberAfter : List ℕ → ℕ → ℕ
-numberAfter file zero = startOf file
-numberAfter file (suc n) = afterOf file (numberAfter file n)
+-- the reader of a file that is lent, when it has been called n times
+unfoldable pub readerAfter : RefT (List ℕ) → ℕ → BlockReader
+readerAfter file zero = openOf file
+readerAfter file (suc n) = afterNext (readerAfter file n)
 
--- what the reader gives at each call
+-- it answers to its next call what is said of call n with no reader, and gives out the bytes that go with that
 abbrev pub ReaderGives : Type 0
-ReaderGives = (file : List ℕ) (n : ℕ) → partOf file (numberAfter file n) ≡ givenOf file n
+ReaderGives =
+    (file : RefT (List ℕ)) (n : ℕ)
+    → (answerOf (readerAfter file n) ≡ givenOf (now file) n) × (nextOf (readerAfter file n) ≡ bytesOf (now file) (givenOf (now file) n))
 
--- an accepted file's blocks come one by one, each of 512 bytes; after the last no bytes come, call after call
+-- block n is given: where it starts, its own bytes, and that these are 512
+abbrev pub GivesBlock : List ℕ → ℕ → Type 0
+GivesBlock file n =
+    (givenOf file n ≡ given.Block (blockBytes * n))
+    × (bytesOf file (givenOf file n) ≡ blockOf file n)
+    × (length (blockOf file n) ≡ blockBytes)
+
+-- an accepted file's blocks come one by one, and after the last none is left, call after call
 abbrev pub AcceptedGives : Type 0
 AcceptedGives =
     (file : List ℕ) (said : Layout) → checkOf file ≡ Valid said → (n : ℕ)
-    → (n < blocksIn file → (givenOf file n ≡ blockOf file n) × (length (givenOf file n) ≡ blockBytes)) × (blocksIn file ≤ n → givenOf file n ≡ [])
+    → (n < blocksIn file → GivesBlock file n) × (blocksIn file ≤ n → givenOf file n ≡ given.NoneLeft)
 
--- a refused file gives nothing
+-- a refused file answers its own refusal at every call, and gives no byte
 abbrev pub RefusedGives : Type 0
-RefusedGives = (file : List ℕ) (r : Refusal) → checkOf file ≡ Refused r → (n : ℕ) → givenOf file n ≡ []
+RefusedGives =
+    (file : List ℕ) (r : Refusal) → checkOf file ≡ Refused r → (n : ℕ)
+    → (givenOf file n ≡ given.Refused r) × (bytesOf file (givenOf file n) ≡ [])
+
+-- none left is said only of an accepted file, and only after its last block
+abbrev pub NoneLeftAtEnd : Type 0
+NoneLeftAtEnd =
+    (file : List ℕ) (n : ℕ) → givenOf file n ≡ given.NoneLeft
+    → (checkOf file ≡ Valid (layoutOf file)) × (blocksIn file ≤ n)
 
 -- the bench table's code P, and what stands in its block
 abbrev pub program : List ℕ

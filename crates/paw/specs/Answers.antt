@@ -5,6 +5,9 @@ use Rattle.refusals.specs.declared.refusal.Refusal.{Refusal}
 use Rattle.image.specs.declared.checker.Checked.{Checked}
 use Rattle.image.specs.declared.checker.Checked.the-variants as checked
 use Rattle.image.specs.declared.checker.Layout.{Layout}
+use Rattle.image.specs.Format.{blockBytes}
+use Rattle.reader.specs.declared.reader.Given.{Given}
+use Rattle.reader.specs.declared.reader.Given.the-variants as given
 use Rattle.packer.specs.declared.packer.Packed.{Packed}
 use Rattle.packer.specs.declared.packer.Packed.the-variants as packed
 use Rattle.verifier.specs.declared.verifier.Verdict.{Verdict}
@@ -24,6 +27,18 @@ layoutWord layout =
 abbrev pub checkedWord : Checked → ℕ
 checkedWord (checked.Valid layout) = layoutWord layout
 checkedWord (checked.Refused r) = refusalWord r
+
+-- what a reader answers: the refusal, where in the file the block starts and above that its length, or that none is left, which has no length
+abbrev pub givenWord : Given → ℕ
+givenWord (given.Refused r) = refusalWord r
+givenWord (given.Block start) = start * 0x10000 + blockBytes * 0x100000000
+givenWord given.NoneLeft = 0
+
+-- where an answer's block starts: the word has 16 bits for it
+abbrev pub startOf : Given → ℕ
+startOf (given.Refused r) = 0
+startOf (given.Block start) = start
+startOf given.NoneLeft = 0
 
 abbrev pub verdictWord : Verdict → ℕ
 verdictWord (verdict.Fit layout) = layoutWord layout

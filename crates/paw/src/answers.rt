@@ -1,12 +1,15 @@
 // Answers as numbers.
+use image::BLOCK_BYTES;
 use image::Checked;
 use image::Layout;
 use loader::Loaded;
 use packer::Packed;
+use reader::Given;
 use refusals::Refusal;
 use verifier::Verdict;
 ghost use mathlib.Core.Path.{_≡_};
-ghost use Rattle.paw.specs.Answers.{refusalWord, layoutWord, checkedWord, verdictWord, loadedWord, packedNumber};
+ghost use Prim.Native.Nat.{_<_};
+ghost use Rattle.paw.specs.Answers.{refusalWord, layoutWord, checkedWord, givenWord, startOf, verdictWord, loadedWord, packedNumber};
 
 // A refusal's number, and its place above it.
 pub(crate) fn refusal_word(r: Refusal) -> u64
@@ -31,6 +34,18 @@ pub(crate) fn checked_word(answer: Checked) -> u64
     match answer {
         Checked::Valid(layout) => layout_word(layout),
         Checked::Refused(r) => refusal_word(r),
+    }
+}
+
+// A block's start, and its length above it.
+pub(crate) fn given_word(answer: Given) -> u64
+    requires { ⌜ startOf answer < 0x10000 ⌝ }
+    ensures { λ w. ⌜ w ≡ givenWord answer ⌝ }
+{
+    match answer {
+        Given::Refused(r) => refusal_word(r),
+        Given::Block(start) => (start as u64) * 0x10000 + (BLOCK_BYTES as u64) * 0x100000000,
+        Given::NoneLeft => 0,
     }
 }
 

@@ -1,12 +1,13 @@
 // The C faces of the check, the block reader and the packer.
 use super::answers::checked_word;
+use super::answers::given_word;
 use super::answers::packed_number;
 ghost use mathlib.Core.Path.{_≡_};
 ghost use lib.ListN.{length};
 ghost use Rattle.image.specs.Check.{checkOf};
 ghost use Rattle.reader.specs.Reader.{givenOf};
 ghost use Rattle.packer.specs.Pack.{packOf, outputOf};
-ghost use Rattle.paw.specs.Answers.{checkedWord, packedNumber};
+ghost use Rattle.paw.specs.Answers.{checkedWord, givenWord, packedNumber};
 
 // Puts checks 2 to 8 to a file.
 #[no_mangle]
@@ -16,14 +17,13 @@ pub extern "C" fn paw_check(file: &[u8]) -> u64
     checked_word(image::check(file))
 }
 
-// How many bytes the reader of a file gives at its call number `n`, from 0:
-// block `n`, the 512 bytes from 512 times `n`, or none.
+// What the reader of a file answers to its call number `n`, from 0: the refusal
+// of the file, where block `n` stands in it, or that none is left.
 #[no_mangle]
-pub extern "C" fn paw_block(file: &[u8], n: usize) -> usize
-    ensures { λ r. ⌜ r ≡ length (givenOf (now (file .entry)) n) ⌝ }
+pub extern "C" fn paw_block(file: &[u8], n: usize) -> u64
+    ensures { λ r. ⌜ r ≡ givenWord (givenOf (now (file .entry)) n) ⌝ }
 {
-    let block = reader::given_at(file, n);
-    block.len()
+    given_word(reader::given_at(file, n))
 }
 
 // Writes the image of a code to an output of exactly its length. A refusal

@@ -1,91 +1,112 @@
-// The reader of an image's blocks. The work is done by functions on a file and
-// a number; those over `BlockReader` take it apart and call them.
+// The reader of an image's blocks. The work is done by functions on a file, a
+// number and what the checks said; those over `BlockReader` take it apart and
+// call them.
 use image::BLOCK_BYTES;
 use image::Checked;
 use image::check;
+use refusals::Refusal;
 ghost use mathlib.Core.Path.{_≡_};
-ghost use Rattle.image.specs.Check.{checkOf};
-ghost use Rattle.reader.specs.Reader.{isLeft, startOf, partOf, afterOf, givenOf};
+ghost use Rattle.reader.specs.Reader.{blockAt, givenAs, givenOf, bytesOf, afterOf, openOf, answerOf, nextOf, afterNext};
 
-// A file that is read block by block, and the number of the block that comes
-// next.
+// What a reader answers to a call: why its file is refused, a block, by the byte
+// of the file at which the block starts, or that none is left.
+pub enum Given {
+    Refused(Refusal),
+    Block(usize),
+    NoneLeft,
+}
+
+// A file that is read block by block, the number of the block that comes next,
+// and what the checks said of the file when the reader was made.
 pub struct BlockReader<'a> {
     file: &'a [u8],
     next: usize,
+    answer: Checked,
 }
 
-// The number of the first block to give out: 0, or past the last if the file is
-// refused.
-fn start_at(file: &[u8]) -> usize
-    ensures { λ r. ⌜ r ≡ startOf (now (file .entry)) ⌝ }
+// The answer to a call at block `next` of an accepted file.
+fn block_at(file: &[u8], next: usize) -> Given
+    ensures { λ r. ⌜ r ≡ blockAt (now (file .entry)) next ⌝ }
 {
-    match check(file) {
-        Checked::Valid(_) => 0,
-        Checked::Refused(_) => file.len() / BLOCK_BYTES,
-    }
-}
-
-// Whether there is a block `next`.
-fn is_left(file: &[u8], next: usize) -> bool
-    ensures { λ r. ⌜ r ≡ isLeft (now (file .entry)) next ⌝ }
-{
-    next < file.len() / BLOCK_BYTES
-}
-
-// Block `next`, or no bytes when none is left.
-fn part_at(file: &[u8], next: usize) -> &[u8]
-    ensures { λ r. ⌜ now r ≡ partOf (now (file .entry)) next ⌝ }
-{
-    if is_left(file, next) {
-        let start = BLOCK_BYTES * next;
-        let end = start + BLOCK_BYTES;
-        &file[start..end]
+    if next < file.len() / BLOCK_BYTES {
+        Given::Block(BLOCK_BYTES * next)
     } else {
-        &file[..0]
+        Given::NoneLeft
     }
 }
 
-// The number of the block after `next`; it stays when none is left.
-fn number_after(file: &[u8], next: usize) -> usize
-    ensures { λ r. ⌜ r ≡ afterOf (now (file .entry)) next ⌝ }
+// The answer to a call at block `next` of a file of which the checks said
+// `answer`. Refused, a block and none left are told apart here and nowhere else.
+fn given_as(file: &[u8], next: usize, answer: Checked) -> Given
+    ensures { λ r. ⌜ r ≡ givenAs (now (file .entry)) next answer ⌝ }
 {
-    if is_left(file, next) { next + 1 } else { next }
+    match answer {
+        Checked::Valid(_) => block_at(file, next),
+        Checked::Refused(refusal) => Given::Refused(refusal),
+    }
 }
 
-// Puts checks 2 to 8 to the whole file, and makes a reader of it. A refused file
-// has no block for its reader; `answer_of` says what it is refused for.
+// The bytes that the call gives out: the block, or none.
+fn part_at(file: &[u8], next: usize, answer: Checked) -> &[u8]
+    ensures { λ r. ⌜ now r ≡ bytesOf (now (file .entry)) (givenAs (now (file .entry)) next answer) ⌝ }
+{
+    match given_as(file, next, answer) {
+        Given::Refused(_) => &file[..0],
+        Given::Block(start) => {
+            let end = start + BLOCK_BYTES;
+            &file[start..end]
+        }
+        Given::NoneLeft => &file[..0],
+    }
+}
+
+// The number of the block that comes next after the call.
+fn number_after(file: &[u8], next: usize, answer: Checked) -> usize
+    ensures { λ r. ⌜ r ≡ afterOf next (givenAs (now (file .entry)) next answer) ⌝ }
+{
+    match given_as(file, next, answer) {
+        Given::Refused(_) => next,
+        Given::Block(_) => next + 1,
+        Given::NoneLeft => next,
+    }
+}
+
+// Puts checks 2 to 8 to the whole file, once, and makes a reader of it.
 pub fn open<'a>(file: &'a [u8]) -> BlockReader<'a>
-    ensures { λ r. ⌜ (r .file ≡ file .entry) × (r .next ≡ startOf (now (file .entry))) ⌝ }
+    ensures { λ r. ⌜ r ≡ openOf (file .entry) ⌝ }
 {
-    let next = start_at(file);
-    BlockReader { file, next }
+    let answer = check(file);
+    BlockReader {
+        file,
+        next: 0,
+        answer,
+    }
 }
 
-// What the checks said of the reader's file: why a refused file gave no block.
-pub fn answer_of<'a>(r: BlockReader<'a>) -> Checked
-    ensures { λ a. ⌜ a ≡ checkOf (now (r .entry .file)) ⌝ }
+// What the reader answers to its next call. The file is not checked again.
+pub fn answer_of<'a>(r: BlockReader<'a>) -> Given
+    ensures { λ a. ⌜ a ≡ answerOf (r .entry) ⌝ }
 {
-    check(r.file)
+    given_as(r.file, r.next, r.answer)
 }
 
-// Gives the next block, its 512 bytes, and goes on to the one after. After the
-// last it gives no bytes, however often it is called.
+// Gives the next block, its 512 bytes, and goes on to the one after. It gives no
+// bytes after the last or of a refused file, however often it is called:
+// `answer_of` tells the one from the other.
 pub fn next<'s, 'a>(r: &'s mut BlockReader<'a>) -> &'a [u8]
-    ensures { λ b. ⌜ (now b ≡ partOf (now (now (r .entry) .file)) (now (r .entry) .next)) × (now (r .exit) .file ≡ now (r .entry) .file) × (now (r .exit) .next ≡ afterOf (now (now (r .entry) .file)) (now (r .entry) .next)) ⌝ }
+    ensures { λ b. ⌜ (now b ≡ nextOf (now (r .entry))) × (now (r .exit) ≡ afterNext (now (r .entry))) ⌝ }
 {
     let file = r.file;
     let at = r.next;
-    r.next = number_after(file, at);
-    part_at(file, at)
+    let answer = r.answer;
+    r.next = number_after(file, at, answer);
+    part_at(file, at, answer)
 }
 
-// What the reader of a file gives at its call number `n`, from 0, for callers
-// with no reader: block `n`, or no bytes after the last or of a refused file.
-pub fn given_at(file: &[u8], n: usize) -> &[u8]
-    ensures { λ r. ⌜ now r ≡ givenOf (now (file .entry)) n ⌝ }
+// What the reader of a file answers to its call number `n`, from 0, for callers
+// with no reader. A block has its 512 bytes from where it starts.
+pub fn given_at(file: &[u8], n: usize) -> Given
+    ensures { λ r. ⌜ r ≡ givenOf (now (file .entry)) n ⌝ }
 {
-    match check(file) {
-        Checked::Valid(_) => part_at(file, n),
-        Checked::Refused(_) => &file[..0],
-    }
+    given_as(file, n, check(file))
 }

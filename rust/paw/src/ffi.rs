@@ -14,7 +14,7 @@ unsafe extern "C" {
     fn paw_verify(file: *const u8, len: usize) -> u64;
     fn paw_load(file: *const u8, len: usize, memory: *mut u8, memory_len: usize) -> u64;
     fn paw_pack(code: *const u16, len: usize, w: u16, l: u16, out: *mut u8, out_len: usize) -> u32;
-    fn paw_block(file: *const u8, len: usize, n: usize) -> usize;
+    fn paw_block(file: *const u8, len: usize, n: usize) -> u64;
 }
 
 pub fn manual_date_byte(i: usize) -> u8 {
@@ -64,7 +64,7 @@ pub fn pack(code: &[u16], w: u16, l: u16, out: &mut [u8]) -> u32 {
     unsafe { paw_pack(code.as_ptr(), code.len(), w, l, out.as_mut_ptr(), out.len()) }
 }
 
-pub fn block(file: &[u8], n: usize) -> usize {
+pub fn block(file: &[u8], n: usize) -> u64 {
     // SAFETY: the file is borrowed for the call and only read, and the length is its own.
     unsafe { paw_block(file.as_ptr(), file.len(), n) }
 }

@@ -2,6 +2,7 @@
 
 use std::iter::FusedIterator;
 use std::ops::Range;
+use std::slice::ChunksExact;
 
 use crate::{Refusal, ffi};
 
@@ -28,7 +29,7 @@ pub struct Layout {
 impl Layout {
     /// The layout or refusal that an answer stands for.
     pub(crate) fn from_answer(answer: u64) -> Result<Self, Refusal> {
-        let [number, first, second, third] = [0, 16, 32, 48].map(|bit| (answer >> bit) as u16);
+        let [number, first, second, third] = parts_of(answer);
         match (number, second, third) {
             (0, w, l) => Ok(Layout { c: first, w, l }),
             (1..=255, 0, 0) => Err(Refusal::from_numbers(number as u8, first)),
@@ -48,6 +49,11 @@ impl Layout {
     }
 }
 
+/// The four 16-bit parts of an answer, the lowest first.
+fn parts_of(answer: u64) -> [u16; 4] {
+    [0, 16, 32, 48].map(|bit| (answer >> bit) as u16)
+}
+
 /// Puts checks 2 to 8 to a file.
 ///
 /// ```
@@ -64,21 +70,21 @@ pub fn check(file: &[u8]) -> Result<Layout, Refusal> {
     Layout::from_answer(ffi::check(file))
 }
 
-/// Gives out the blocks of an image, first to last, each as its 512 bytes of the file.
+/// Gives out the blocks of an image, first to last, each as its 512 bytes of the file, and says
+/// `None` only after the last. A refused file has no reader: [`BlockReader::open`] says why.
 ///
-/// The library's reader is lent the file anew for each block and puts its checks again, so reading
-/// costs a check of the file for each block.
+/// The file is checked once. It is proved of the library's reader that an accepted file's block
+/// `n` is its bytes from `512 * n` on and that none is left after those, so no block costs a call.
 #[derive(Clone, Debug)]
 pub struct BlockReader<'a> {
-    file: &'a [u8],
-    next: usize,
+    blocks: ChunksExact<'a, u8>,
 }
 
 impl<'a> BlockReader<'a> {
     /// Puts checks 2 to 8 to the whole file before any block is given out.
     pub fn open(file: &'a [u8]) -> Result<Self, Refusal> {
         check(file)?;
-        Ok(BlockReader { file, next: 0 })
+        Ok(BlockReader { blocks: file.chunks_exact(BLOCK_BYTES) })
     }
 }
 
@@ -86,20 +92,40 @@ impl<'a> Iterator for BlockReader<'a> {
     type Item = &'a [u8];
 
     fn next(&mut self) -> Option<&'a [u8]> {
-        let block = block(self.file, self.next)?;
-        self.next += 1;
-        Some(block)
+        self.blocks.next()
+    }
+
+    fn size_hint(&self) -> (usize, Option<usize>) {
+        self.blocks.size_hint()
     }
 }
 
+impl ExactSizeIterator for BlockReader<'_> {}
+
 impl FusedIterator for BlockReader<'_> {}
 
-/// What a reader of the file gives at its call number `n`, counted from 0: the block, or nothing
-/// where none is left or the file is refused.
-pub fn block(file: &[u8], n: usize) -> Option<&[u8]> {
-    match ffi::block(file, n) {
-        0 => None,
-        len => Some(&file[n * BLOCK_BYTES..][..len]),
+/// Puts checks 2 to 8 to the whole file, then answers what a reader of it gives at its call number
+/// `n`, counted from 0: the block, or `None` where none is left. [`BlockReader`] gives them all
+/// for one check.
+///
+/// ```
+/// let mut file = vec![0; paw::image_bytes(250)];
+/// paw::pack(&[0x0000; 250], 512, 64, &mut file)?;
+/// assert_eq!(paw::block(&file, 1), Ok(Some(&file[512..])));
+/// assert_eq!(paw::block(&file, 2), Ok(None));
+/// file[512] ^= 1;
+/// let refusal = paw::block(&file, 2).unwrap_err();
+/// assert_eq!((refusal.check, refusal.place), (paw::Check::BlockMark, paw::Place::Block(1)));
+/// # Ok::<(), paw::Refusal>(())
+/// ```
+pub fn block(file: &[u8], n: usize) -> Result<Option<&[u8]>, Refusal> {
+    let answer = ffi::block(file, n);
+    let [number, first, second, third] = parts_of(answer);
+    match (number, usize::from(second), third) {
+        (0, 0, 0) if first == 0 => Ok(None),
+        (0, BLOCK_BYTES, 0) => Ok(Some(&file[first.into()..][..BLOCK_BYTES])),
+        (1..=255, 0, 0) => Err(Refusal::from_numbers(number as u8, first)),
+        _ => panic!("libpaw.a answers the reader with {answer:#x}"),
     }
 }
 

@@ -168,6 +168,12 @@ impl<'a> Iterator for BlockReader<'a> {
     }
 }
 
+/// What a reader of the file gives at its call number `n`, counted from 0: the block, or `None`
+/// when there are none left. A file that fails a check has no reader.
+pub fn block(file: &[u8], n: usize) -> Result<Option<&[u8]>, Refusal> {
+    Ok(BlockReader::open(file)?.nth(n))
+}
+
 /// Blocks that `used` halfwords of code take up.
 pub const fn blocks_needed(used: usize) -> usize {
     used.div_ceil(BLOCK_CODE)

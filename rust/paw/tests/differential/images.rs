@@ -194,24 +194,42 @@ fn the_first_no_of_several_counts() {
     assert!(tally[3..].iter().all(|&count| count > 100), "{tally:?}");
 }
 
+/// What both engines' readers answer to call `n`: the same bytes of the same file, that none is
+/// left, or the same refusal.
+fn given(file: &[u8], n: usize) -> Result<Option<&[u8]>, Refusal> {
+    let expected = reference::image::block(file, n);
+    let answer = paw::block(file, n).map_err(refusal);
+    assert_eq!(answer, expected, "call {n}");
+    let place = |block: Option<&[u8]>| block.map(<[u8]>::as_ptr);
+    assert_eq!(answer.map(place), expected.map(place), "call {n}");
+    answer
+}
+
 /// The blocks that both readers give, and that neither gives more.
 fn read(file: &[u8]) -> Result<Vec<&[u8]>, Refusal> {
     let expected = reference::image::BlockReader::open(file);
-    let mut reader = match (paw::BlockReader::open(file), expected) {
-        (Ok(reader), Ok(expected)) => reader.zip(expected),
+    let (reader, mut expected) = match (paw::BlockReader::open(file), expected) {
+        (Ok(reader), Ok(expected)) => (reader, expected),
         (Err(refused), Err(expected)) => {
             assert_eq!(refusal(refused), expected);
-            assert_eq!(paw::block(file, 0), None);
+            // At every call, and not only at the first.
+            for n in [0, 1, file.len() / BLOCK_BYTES, MAX_BLOCKS, usize::MAX] {
+                assert_eq!(given(file, n), Err(expected));
+            }
             return Err(expected);
         }
         (opened, expected) => panic!("{opened:?}, not {expected:?}"),
     };
     let mut blocks = Vec::new();
-    for (block, expected) in &mut reader {
+    for block in reader {
         // The same bytes of the same file, not a copy.
+        let expected = expected.next().expect("no more blocks than there are");
         assert_eq!((block.as_ptr(), block.len()), (expected.as_ptr(), BLOCK_BYTES));
+        // The reader that checks once gives what the library's does at this call.
+        assert_eq!(given(file, blocks.len()), Ok(Some(block)));
         blocks.push(block);
     }
+    assert_eq!(expected.next(), None);
     Ok(blocks)
 }
 
@@ -224,11 +242,12 @@ fn the_reader_gives_every_block_once() {
         assert_eq!(read(&file).unwrap(), expected);
 
         let mut reader = paw::BlockReader::open(&file).unwrap();
+        assert_eq!(reader.len(), blocks);
         assert_eq!(reader.by_ref().count(), blocks);
         assert_eq!([reader.next(), reader.next(), reader.next()], [None; 3]);
         // Numbers whose place in the file wraps around are numbers of no block.
         for n in [blocks, blocks + 1, 1 << 55, (1 << 55) + 1, usize::MAX] {
-            assert_eq!(paw::block(&file, n), None);
+            assert_eq!(given(&file, n), Ok(None));
         }
     }
 }

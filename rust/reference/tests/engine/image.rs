@@ -1,8 +1,8 @@
 use reference::generate::{self, DamageKind, Rng};
 use reference::image::{
-    blocks_needed, check, code, halfword, is_window, mend_sum, pack, pack_file, set_halfword,
-    BlockReader, Layout, BLOCKS_FIELD, BLOCK_BYTES, BLOCK_CODE, CODE_FIELD, MARK, MARK_FIELD,
-    MAX_BLOCKS, MAX_CODE, NUMBER_FIELD, SUM_FIELD, USED_FIELD, WINDOW_LENGTH_FIELD,
+    block, blocks_needed, check, code, halfword, is_window, mend_sum, pack, pack_file,
+    set_halfword, BlockReader, Layout, BLOCKS_FIELD, BLOCK_BYTES, BLOCK_CODE, CODE_FIELD, MARK,
+    MARK_FIELD, MAX_BLOCKS, MAX_CODE, NUMBER_FIELD, SUM_FIELD, USED_FIELD, WINDOW_LENGTH_FIELD,
     WINDOW_START_FIELD,
 };
 use reference::refusal::Refusal;
@@ -229,6 +229,22 @@ fn the_reader_gives_every_block_once() {
     let mut file = full_file(3);
     set_field(&mut file, 2, NUMBER_FIELD, 0);
     assert_eq!(BlockReader::open(&file).err(), refused::<()>(5, 2).err());
+}
+
+#[test]
+fn a_block_none_left_or_refused() {
+    let mut file = full_file(3);
+    for (n, expected) in file.chunks(BLOCK_BYTES).enumerate() {
+        assert_eq!(block(&file, n), Ok(Some(expected)));
+    }
+    for n in [3, 4, 1 << 55, usize::MAX] {
+        assert_eq!(block(&file, n), Ok(None));
+    }
+    set_field(&mut file, 2, NUMBER_FIELD, 0);
+    for n in [0, 1, 2, 3, usize::MAX] {
+        assert_eq!(block(&file, n), refused(5, 2));
+    }
+    assert_eq!(block(&[], 0), refused(2, 0));
 }
 
 /// The number a damage must give, where that is certain from the damage alone.

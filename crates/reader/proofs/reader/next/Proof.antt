@@ -1,5 +1,5 @@
--- The borrow is opened, the slice and the number are read, `number_after` gives the number that is stored, the borrow is closed, and `part_at` gives the result: a walk of its MIR, by hand. All that the proof knows of the two is their contracts.
--- The struct is Copy: of one copy of what it owns the slice's part is taken, twice, for the two calls; the other is kept, and the facts of the number are made anew (`again`).
+-- The borrow is opened, the fields are read, `number_after` gives the number that is stored, the borrow is closed, and `part_at` gives the result: a walk of its MIR, by hand. All that the proof knows of the two is their contracts.
+-- The struct is Copy: two copies of what it owns, opened, are what the two calls ask; a third is kept, and the facts of the number are made anew (`again`).
 use mathlib.Core.Path.{_≡_, refl, ap}
 use Prim.Native.Nat.{ℕ, _<_, _^_}
 use mathlib.Core.List.{List, [], _∷_}
@@ -29,11 +29,12 @@ use denote.Plain.{uint-makes, uint-lawful}
 use denote.Builtin.{u8, usize}
 use denote.Ref.{RefT, NamedLft, MutRef, ptr-vals, mut-tells, now}
 use denote.Signature.{Slot, plain, namedLft}
-use denote.Slice.{sliceVal, ShrSlice, shr-slice-lawful, shr-slice-copy}
+use denote.Slice.{sliceVal, ShrSlice, shr-slice-lawful}
 use denote.Steps.{only, opens, closes, owned, peeks, heard, nothing}
+use denote.Enum.Laws as EL
 use denote.Struct.Declared.{Declared}
 use denote.Struct.Laws as LL
-use denote.Struct.Rest.{all-own, ownAt, rest, own-open, own-out, own-put}
+use denote.Struct.Rest.{all-own, own-open, own-put}
 use denote.Struct.Steps.{spelt}
 use denote.Struct.Values.{Values}
 use denote.Triple.Statement.{Contract, Triple}
@@ -43,10 +44,13 @@ use denote.Triple.Spec.{Meets, tripleOf}
 use denote.Triple.Table.{entered, cited}
 use denote.Triple.Walked.{says, Stays, stay-ref, walkOf, goes-ref, Walks, ends-at, walked, walk-meets}
 use denote.Triple.Clauses.{ensured, lasts}
-use Rattle.reader.specs.Reader.{partOf, afterOf}
+use Rattle.reader.specs.Reader.{answerOf, bytesOf, afterOf}
 use Rattle.reader.specs.declared.reader.BlockReader.{BlockReader}
+use Rattle.reader.specs.declared.reader.Given.{Given as Answer}
 use Rattle.reader.proofs.reader.BlockReader as T
 use Rattle.reader.proofs.reader.BlockReader.Laws as T′
+use Rattle.image.proofs.checker.Checked as E
+use Rattle.image.proofs.checker.Checked.Laws as E′
 use Rattle.reader.proofs.reader.number_after as after
 use Rattle.reader.proofs.reader.number_after.Symbol as after-def
 use Rattle.reader.proofs.reader.number_after.Symbol.{name as #number-after}
@@ -91,7 +95,7 @@ module _ {M : Type 1} (𝓤 : URA M) (H : Heap 𝓤) (A : Atoms 𝓤) (W : Given
 
   -- the struct with another number
   abbrev to-number : ℕ → BlockReader
-  to-number n = record { file = h .file; next = n }
+  to-number n = record { file = h .file; next = n; answer = h .answer }
 
   abbrev at : List Val × Unit {0}
   at = (vptr b o ∷ [], tt)
@@ -99,18 +103,25 @@ module _ {M : Type 1} (𝓤 : URA M) (H : Heap 𝓤) (A : Atoms 𝓤) (W : Given
   abbrev Post : Val → SProp 𝓤
   Post = walkOf 𝓤 H A next.ended stayed (next.clauses 𝓤 H A at-mem run) .post (((κ, (κ′, tt)), (q, (q′, tt)), bounds, x, at), tt)
 
-  abbrev mach : Val
-  mach = T′.lowered h
+  -- a struct's machine value
+  abbrev val : BlockReader → Val
+  val d = LL.val (T.the-type (α κ′)) (T′.the-laws (α κ′)) d
 
-  -- the machine value of the slice
+  abbrev mach : Val
+  mach = val h
+
+  -- the machine values of the slice, and of what the checks said
   abbrev v : Val
   v = sliceVal (h .file .ptr) (length (h .file .now))
 
+  abbrev w : Val
+  w = EL.val E.the-type E′.the-laws (h .answer)
+
+  abbrev found : Answer
+  found = answerOf h
+
   abbrev Own : Fml
   Own = B κ′ .own h (mach ∷ [])
-
-  abbrev Slice : Fml
-  Slice = ShrSlice (named 0) κ′ u8 .own (h .file) (v ∷ [])
 
   abbrev D : Declared
   D = T.the-type (α κ′)
@@ -119,83 +130,89 @@ module _ {M : Type 1} (𝓤 : URA M) (H : Heap 𝓤) (A : Atoms 𝓤) (W : Given
   L = T′.the-laws (α κ′)
 
   abbrev vd : Values (D .parts)
-  vd = (h .file, (h .next, tt))
+  vd = (h .file, (h .next, (h .answer, tt)))
 
-  -- what the struct owns, and of a copy what the slice owns, twice
-  parts : ent 𝓤 (sem 𝓤 H A Own) (sep 𝓤 (sem 𝓤 H A Own) (sep 𝓤 (sem 𝓤 H A Slice) (sem 𝓤 H A Slice)))
+  abbrev Fields : Fml
+  Fields = all-own (D .parts) L vd
+
+  -- what the struct owns, and twice what its fields own together
+  parts : ent 𝓤 (sem 𝓤 H A Own) (sep 𝓤 (sem 𝓤 H A Own) (sep 𝓤 (sem 𝓤 H A Fields) (sem 𝓤 H A Fields)))
   parts =
       qed W (‵ Own ∷ []) ∵ use1 W (‵ Own ⊛ ‵ Own) (LL.copy D (T′.the-copy (α κ′)) 𝓤 H A W .twice h (mach ∷ [])) $ split ! $ frame ! $
-      use1 W (given (mach ∷ [] ≡ mach ∷ []) (‵ (all-own (D .parts) L vd))) (own-open 𝓤 H A W D L vd mach) $ learn ! (λ _. use1 W (‵ (ownAt (D .parts) L 0 (h .file)) ⊛ ‵ (rest (D .parts) L 0 vd)) (own-out 𝓤 H A W (D .parts) L 0 vd) $ split ! $ move ! (1 ∷ []) $ drop ! $
-      use1 W (‵ Slice ⊛ ‵ Slice) (shr-slice-copy 𝓤 H A W (named 1) κ′ u8 .twice (h .file) (v ∷ [])) $ split ! $ frame ! $ done !)
+      use1 W (‵ Own ⊛ ‵ Own) (LL.copy D (T′.the-copy (α κ′)) 𝓤 H A W .twice h (mach ∷ [])) $ split ! $
+      use1 W (given (mach ∷ [] ≡ mach ∷ []) (‵ Fields)) (own-open 𝓤 H A W D L vd mach) $ learn ! (λ _. frame ! $
+      use1 W (given (mach ∷ [] ≡ mach ∷ []) (‵ Fields)) (own-open 𝓤 H A W D L vd mach) $ learn ! (λ _. done !))
 
   -- the number's facts are made anew
-  again : (n : ℕ) → n < 2 ^ 64 → ent 𝓤 (sem 𝓤 H A Own) (sem 𝓤 H A (B κ′ .own (to-number n) (T′.lowered (to-number n) ∷ [])))
+  again : (n : ℕ) → n < 2 ^ 64 → ent 𝓤 (sem 𝓤 H A Own) (sem 𝓤 H A (B κ′ .own (to-number n) (val (to-number n) ∷ [])))
   again n ok = qed W (‵ Own ∷ []) ∵ owned ! usize (Is usize) (uint-makes 𝓤 H A W w64) n _ (refl, ok) $ move ! (1 ∷ 0 ∷ []) $ by ! (own-put 𝓤 H A W D L 1 vd n mach)
 
   -- what each callee is passed, and what it asks
+  abbrev passed : List Val × (List Val × (List Val × Unit {0}))
+  passed = (v ∷ [], (vint w64 (h .next) ∷ [], (w ∷ [], tt)))
+
   abbrev to-after : After 𝓤 H A at-mem run .Ghost
-  to-after = (((κ′, tt), (q′, tt), tt, (h .file, (h .next, tt)), (v ∷ [], (vint w64 (h .next) ∷ [], tt))), tt)
+  to-after = (((κ′, tt), (q′, tt), tt, vd, passed), tt)
 
   abbrev to-part : Part 𝓤 H A at-mem run .Ghost
-  to-part = (((κ′, tt), (q′, tt), tt, (h .file, (h .next, tt)), (v ∷ [], (vint w64 (h .next) ∷ [], tt))), tt)
+  to-part = (((κ′, tt), (q′, tt), tt, vd, passed), tt)
 
-  goes-after : h .next < 2 ^ 64 → ent 𝓤 (⋆ 𝓤 H A (‵ Slice ∷ (‵ (flft κ′ q′) ⊛ ‵ ftrue) ∷ [])) (After 𝓤 H A at-mem run .pre to-after)
-  goes-after fits =
-      qed W (‵ Slice ∷ (‵ (flft κ′ q′) ⊛ ‵ ftrue) ∷ []) ∵ nothing ! $ owned ! usize (Is usize) (uint-makes 𝓤 H A W w64) (h .next) _ (refl, fits) $ fjoin ! $ move ! (1 ∷ 0 ∷ []) $ fjoin ! $ move ! (1 ∷ 0 ∷ []) $ join ! $ frame ! $ done !
+  goes-after : ent 𝓤 (⋆ 𝓤 H A (‵ Fields ∷ (‵ (flft κ′ q′) ⊛ ‵ ftrue) ∷ [])) (After 𝓤 H A at-mem run .pre to-after)
+  goes-after = qed W (‵ Fields ∷ (‵ (flft κ′ q′) ⊛ ‵ ftrue) ∷ []) ∵ move ! (1 ∷ 0 ∷ []) $ join ! $ frame ! $ done !
 
-  goes-part : h .next < 2 ^ 64 → ent 𝓤 (⋆ 𝓤 H A (‵ Slice ∷ (‵ (flft κ′ q′) ⊛ ‵ ftrue) ∷ [])) (Part 𝓤 H A at-mem run .pre to-part)
-  goes-part fits =
-      qed W (‵ Slice ∷ (‵ (flft κ′ q′) ⊛ ‵ ftrue) ∷ []) ∵ nothing ! $ owned ! usize (Is usize) (uint-makes 𝓤 H A W w64) (h .next) _ (refl, fits) $ fjoin ! $ move ! (1 ∷ 0 ∷ []) $ fjoin ! $ move ! (1 ∷ 0 ∷ []) $ join ! $ frame ! $ done !
+  goes-part : ent 𝓤 (⋆ 𝓤 H A (‵ Fields ∷ (‵ (flft κ′ q′) ⊛ ‵ ftrue) ∷ [])) (Part 𝓤 H A at-mem run .pre to-part)
+  goes-part = qed W (‵ Fields ∷ (‵ (flft κ′ q′) ⊛ ‵ ftrue) ∷ []) ∵ move ! (1 ∷ 0 ∷ []) $ join ! $ frame ! $ done !
 
-  after-said : (r : ℕ) → ent 𝓤 (ensured 𝓤 H A after.ended (after.clauses 𝓤 H A at-mem run) (κ′, tt) (h .file, (h .next, tt)) tt r) (fact 𝓤 (r ≡ afterOf (now (h .file)) (h .next)))
-  after-said r = exE 𝓤 _ (λ ws. snd∗ 𝓤 (sem 𝓤 H A (lasts after.ended (κ′, tt) (h .file, (h .next, tt)) ws)) (fact 𝓤 (r ≡ afterOf (now (h .file)) (h .next))))
+  after-said : (r : ℕ) → ent 𝓤 (ensured 𝓤 H A after.ended (after.clauses 𝓤 H A at-mem run) (κ′, tt) vd tt r) (fact 𝓤 (r ≡ afterOf (h .next) found))
+  after-said r = exE 𝓤 _ (λ ws. snd∗ 𝓤 (sem 𝓤 H A (lasts after.ended (κ′, tt) vd ws)) (fact 𝓤 (r ≡ afterOf (h .next) found)))
 
-  part-said : (t : RefT (List ℕ)) → ent 𝓤 (ensured 𝓤 H A part.ended (part.clauses 𝓤 H A at-mem run) (κ′, tt) (h .file, (h .next, tt)) tt t) (fact 𝓤 (now t ≡ partOf (now (h .file)) (h .next)))
-  part-said t = exE 𝓤 _ (λ ws. snd∗ 𝓤 (sem 𝓤 H A (lasts part.ended (κ′, tt) (h .file, (h .next, tt)) ws)) (fact 𝓤 (now t ≡ partOf (now (h .file)) (h .next))))
+  part-said : (t : RefT (List ℕ)) → ent 𝓤 (ensured 𝓤 H A part.ended (part.clauses 𝓤 H A at-mem run) (κ′, tt) vd tt t) (fact 𝓤 (now t ≡ bytesOf (now (h .file)) found))
+  part-said t = exE 𝓤 _ (λ ws. snd∗ 𝓤 (sem 𝓤 H A (lasts part.ended (κ′, tt) vd ws)) (fact 𝓤 (now t ≡ bytesOf (now (h .file)) found)))
 
-  exits : (n : ℕ) (t : RefT (List ℕ)) (u : Val) → n ≡ afterOf (now (h .file)) (h .next) → now t ≡ partOf (now (h .file)) (h .next)
+  exits : (n : ℕ) (t : RefT (List ℕ)) (u : Val) → n ≡ afterOf (h .next) found → now t ≡ bytesOf (now (h .file)) found
       → ent 𝓤 (⋆ 𝓤 H A (‵ (ShrSlice (named 1) κ′ u8 .own t (u ∷ [])) ∷ (‵ (flft κ′ q′) ⊛ ‵ ftrue) ∷ ‵ (fobs γ (B κ′ .coded .code (to-number n))) ∷ ‵ (fbor κ (Body (mem (B κ′)) b o γ)) ∷ ‵ (flft κ q) ∷ [])) (Post u)
   exits n t u e e′ =
       qed W (‵ (ShrSlice (named 1) κ′ u8 .own t (u ∷ [])) ∷ (‵ (flft κ′ q′) ⊛ ‵ ftrue) ∷ ‵ (fobs γ (B κ′ .coded .code (to-number n))) ∷ ‵ (fbor κ (Body (mem (B κ′)) b o γ)) ∷ ‵ (flft κ q) ∷ []) ∵
-      suffices ! _ (ends-at 𝓤 H A next.ended stayed (next.clauses 𝓤 H A at-mem run) W (((κ, (κ′, tt)), (q, (q′, tt)), bounds, x, at), tt) u t (to-number n, tt) (tt, tt)) $ says ! (e′, refl, e) $
+      suffices ! _ (ends-at 𝓤 H A next.ended stayed (next.clauses 𝓤 H A at-mem run) W (((κ, (κ′, tt)), (q, (q′, tt)), bounds, x, at), tt) u t (to-number n, tt) (tt, tt)) $ says ! (e′, ap to-number e) $
       move ! (4 ∷ 1 ∷ []) $ join ! $ frame ! $ move ! (1 ∷ 2 ∷ []) $ feqI ! (List Val) (vptr b o ∷ []) (vptr b o ∷ []) refl $ fjoin3 ! $ nothing ! $ move ! (1 ∷ 0 ∷ []) $ fjoin ! $ frame ! $ done !
 
   module _ (C : Calls 𝓤 H) (Λ : Loops 𝓤 H) (fm : FmC 𝓤 H (W .laws) C) (known-after : Triple 𝓤 (C #number-after) (After 𝓤 H A at-mem run)) (known-part : Triple 𝓤 (C #part-at) (Part 𝓤 H A at-mem run)) where
     walk : ent 𝓤 (onEntry 𝓤 H A next.signature (κ, (κ′, tt)) (q, (q′, tt)) x at) (WpFn 𝓤 H C Λ code.function (vptr b o ∷ []) Post)
     walk =
         qed W ((‵ (flft κ q) ⊛ ‵ (flft κ′ q′) ⊛ ‵ ftrue) ∷ ‵ (owns (MutRef (named 0) κ (B κ′) ∷ []) x at) ∷ []) ∵ enter ! C Λ code.function (vptr b o ∷ []) _ $
-        alloc1 ! (λ l₀. alloc1 ! (λ l₁. alloc1 ! (λ l₂. alloc1 ! (λ l₃. alloc1 ! (λ l₄. alloc0 ! $ params1 ! $ pass1 ! (init ! 6 refl (tt, tt)) $ pass0 ! $
-        move ! (11 ∷ []) $ fsplit ! $ fsplit3 ! $ drop ! $ move ! (13 ∷ []) $ split ! $ move ! (2 ∷ 3 ∷ 0 ∷ []) $
-        opens ! tt (B κ′) {h = h} b o (λ vs. spelt ! (B κ′) (Is (B κ′)) (shows 𝓤 H A (B κ′)) (LL.vals (T.the-type (α κ′)) (T′.the-laws (α κ′))) (LL.tells (T.the-type (α κ′)) (T′.the-laws (α κ′))) fullShare h vs b o $
+        alloc1 ! (λ l₀. alloc1 ! (λ l₁. alloc1 ! (λ l₂. alloc1 ! (λ l₃. alloc1 ! (λ l₄. alloc1 ! (λ l₅. alloc0 ! $ params1 ! $ pass1 ! (init ! 8 refl (tt, tt)) $ pass0 ! $
+        move ! (13 ∷ []) $ fsplit ! $ fsplit3 ! $ drop ! $ move ! (15 ∷ []) $ split ! $ move ! (2 ∷ 3 ∷ 0 ∷ []) $
+        opens ! tt (B κ′) {h = h} b o (λ vs. spelt ! (B κ′) (Is (B κ′)) (shows 𝓤 H A (B κ′)) (LL.vals D L) (LL.tells D L) fullShare h vs b o $
         use1 W (‵ (fat fullShare (T′.mir erased) b o mach)) (W .laws .raw-at fullShare (T′.mir erased) b o mach) $
         move ! (1 ∷ []) $ peeks ! (B κ′) (Is (B κ′)) (shows 𝓤 H A (B κ′)) h (mach ∷ []) (λ was. move ! (1 ∷ 0 ∷ []) $
-        -- [the struct's cell; what the struct owns; the open borrow; obs; auth; 'a's token; nothing; _4; …; _3; …; _2; …; _1; …; room for _0; …]
-        assigns ! (of-opd ! (load ! (from ! (hop ! (look ! 13 refl) (fld ! refl (stop !)))) (look-in ! 0 (sub ! 0 refl (whole !))))) (from ! (stop !)) (init ! 11 refl (tt, LL.lawful (T.the-type (αᵉ κ′)) (T′.the-laws (αᵉ κ′)) 𝓤 H A W .typed h _ was .0 .1 .0)) $
-        assigns ! (of-opd ! (load ! (from ! (hop ! (look ! 13 refl) (fld ! refl (stop !)))) (look-in ! 0 (sub ! 1 refl (whole !))))) (from ! (stop !)) (init ! 9 refl (tt, record { fits = was .1 .1 .1 .0 .1 })) $
-        move ! (6 ∷ []) $ drop ! $ move ! (1 ∷ []) $ use1 W (‵ Own ⊛ ‵ Slice ⊛ ‵ Slice) parts $ split ! $ move ! (1 ∷ []) $ split ! $
-        -- [the slice's; the slice's; what the struct owns; the struct's cell; the open borrow; obs; auth; 'a's token; _4; …; _3; …; _2; …; _1; …; room for _0; …]
-        move ! (0 ∷ 7 ∷ []) $ use2 W (raw (After 𝓤 H A at-mem run .pre to-after)) (goes-after (was .1 .1 .1 .0 .1)) $
-        calls-at ! fm (After 𝓤 H A at-mem run) known-after to-after (and-then ! (load ! (from ! (stop !)) (look ! 11 refl)) (and-then ! (load ! (from ! (stop !)) (look ! 9 refl)) (no-more !))) (λ u.
-        use1 W (later (some (λ (r : ℕ). ((‵ (flft κ′ q′) ⊛ ‵ ftrue) ⊛ ‵ (usize .own r (u ∷ []))) ⊛ raw (ensured 𝓤 H A after.ended (after.clauses 𝓤 H A at-mem run) (κ′, tt) (h .file, (h .next, tt)) tt r)))) (id⊢ 𝓤 _) $ await ! tt $ pick ! (λ r.
-        split ! $ move ! (1 ∷ []) $ use1 W (raw (fact 𝓤 (r ≡ afterOf (now (h .file)) (h .next)))) (after-said r) $ heard ! (r ≡ afterOf (now (h .file)) (h .next)) (λ e. split ! $ move ! (1 ∷ []) $
-        -- [the number; 'a's token; the slice's; what the struct owns; the struct's cell; the open borrow; obs; auth; room for _4; …; _3; …; _2; …; _1; …; room for _0; …]
+        -- [the struct's cell; what the struct owns; the open borrow; obs; auth; 'a's token; nothing; _5; …; _4; …; _3; …; _2; …; _1; …; room for _0; …]
+        assigns ! (of-opd ! (load ! (from ! (hop ! (look ! 15 refl) (fld ! refl (stop !)))) (look-in ! 0 (sub ! 0 refl (whole !))))) (from ! (stop !)) (init ! 13 refl (tt, LL.lawful (T.the-type (αᵉ κ′)) (T′.the-laws (αᵉ κ′)) 𝓤 H A W .typed h _ was .0 .1 .0)) $
+        assigns ! (of-opd ! (load ! (from ! (hop ! (look ! 15 refl) (fld ! refl (stop !)))) (look-in ! 0 (sub ! 1 refl (whole !))))) (from ! (stop !)) (init ! 11 refl (tt, record { fits = was .1 .1 .1 .0 .1 })) $
+        assigns ! (of-opd ! (load ! (from ! (hop ! (look ! 15 refl) (fld ! refl (stop !)))) (look-in ! 0 (sub ! 2 refl (whole !))))) (from ! (stop !)) (init ! 9 refl (EL.lawful E.the-type E′.the-laws 𝓤 H A W tt .typed (h .answer) _ (LL.owed D L h _ was .1 .1 .0) .0)) $
+        move ! (6 ∷ []) $ drop ! $ move ! (1 ∷ []) $ use1 W (‵ Own ⊛ ‵ Fields ⊛ ‵ Fields) parts $ split ! $ move ! (1 ∷ []) $ split ! $
+        -- [the fields'; the fields'; what the struct owns; the struct's cell; the open borrow; obs; auth; 'a's token; _5; …; _4; …; _3; …; _2; …; _1; …; room for _0; …]
+        move ! (0 ∷ 7 ∷ []) $ use2 W (raw (After 𝓤 H A at-mem run .pre to-after)) goes-after $
+        calls-at ! fm (After 𝓤 H A at-mem run) known-after to-after (and-then ! (load ! (from ! (stop !)) (look ! 13 refl)) (and-then ! (load ! (from ! (stop !)) (look ! 11 refl)) (and-then ! (load ! (from ! (stop !)) (look ! 9 refl)) (no-more !)))) (λ u.
+        use1 W (later (some (λ (r : ℕ). ((‵ (flft κ′ q′) ⊛ ‵ ftrue) ⊛ ‵ (usize .own r (u ∷ []))) ⊛ raw (ensured 𝓤 H A after.ended (after.clauses 𝓤 H A at-mem run) (κ′, tt) vd tt r)))) (id⊢ 𝓤 _) $ await ! tt $ pick ! (λ r.
+        split ! $ move ! (1 ∷ []) $ use1 W (raw (fact 𝓤 (r ≡ afterOf (h .next) found))) (after-said r) $ heard ! (r ≡ afterOf (h .next) found) (λ e. split ! $ move ! (1 ∷ []) $
+        -- [the number; 'a's token; the fields'; what the struct owns; the struct's cell; the open borrow; obs; auth; room for _5; …; _4; …; _3; …; _2; …; _1; …; room for _0; …]
         peeks ! usize (Is usize) (shows 𝓤 H A usize) r (u ∷ []) (λ is.
-        land ! (from ! (stop !)) (init ! 8 refl (uint-lawful 𝓤 H A W w64 .typed r _ is .0)) $ rewrite ! 8 (λ (y : Val). ‵ (fat fullShare (tyInt w64) l₄ 0 y)) (ap only (is .0)) refl $ drop ! $
-        assigns ! (of-opd ! (load ! (from ! (stop !)) (look ! 7 refl))) (from ! (hop ! (look ! 13 refl) (fld ! refl (stop !)))) (store-in ! 3 (sub ! 1 refl (whole !)) (tt, record { fits = is .1 })) $
+        land ! (from ! (stop !)) (init ! 8 refl (uint-lawful 𝓤 H A W w64 .typed r _ is .0)) $ rewrite ! 8 (λ (y : Val). ‵ (fat fullShare (tyInt w64) l₅ 0 y)) (ap only (is .0)) refl $ drop ! $
+        assigns ! (of-opd ! (load ! (from ! (stop !)) (look ! 7 refl))) (from ! (hop ! (look ! 15 refl) (fld ! refl (stop !)))) (store-in ! 3 (sub ! 1 refl (whole !)) (tt, record { fits = is .1 })) $
         -- the borrow is closed at the new number
-        move ! (2 ∷ []) $ use1 W (‵ (B κ′ .own (to-number r) (T′.lowered (to-number r) ∷ []))) (again r (is .1)) $
-        move ! (3 ∷ []) $ use1 W (‵ (cellAt fullShare (B κ′ .mir) (T′.lowered (to-number r) ∷ []) b o)) (W .laws .at-raw fullShare (T′.mir erased) b o (T′.lowered (to-number r))) $
-        move ! (0 ∷ 1 ∷ 4 ∷ 5 ∷ 6 ∷ []) $ closes ! tt (B κ′) (to-number r) (T′.lowered (to-number r) ∷ []) b o $
-        -- [obs; the borrow; its token; 'a's token; the slice's; _4; …; _3; …; _2; …; _1; …; room for _0; …]
-        move ! (4 ∷ 3 ∷ []) $ use2 W (raw (Part 𝓤 H A at-mem run .pre to-part)) (goes-part (was .1 .1 .1 .0 .1)) $
-        calls-at ! fm (Part 𝓤 H A at-mem run) known-part to-part (and-then ! (load ! (from ! (stop !)) (look ! 8 refl)) (and-then ! (load ! (from ! (stop !)) (look ! 6 refl)) (no-more !))) (λ u′.
-        use1 W (later (some (λ (t : RefT (List ℕ)). ((‵ (flft κ′ q′) ⊛ ‵ ftrue) ⊛ ‵ (ShrSlice (named 0) κ′ u8 .own t (u′ ∷ []))) ⊛ raw (ensured 𝓤 H A part.ended (part.clauses 𝓤 H A at-mem run) (κ′, tt) (h .file, (h .next, tt)) tt t)))) (id⊢ 𝓤 _) $ await ! tt $ pick ! (λ t.
-        split ! $ move ! (1 ∷ []) $ use1 W (raw (fact 𝓤 (now t ≡ partOf (now (h .file)) (h .next)))) (part-said t) $ heard ! (now t ≡ partOf (now (h .file)) (h .next)) (λ e′. split ! $ move ! (1 ∷ []) $
-        -- [the part; 'a's token; obs; the borrow; its token; _4; …; _3; …; _2; …; _1; …; room for _0; …]
+        move ! (2 ∷ []) $ use1 W (‵ (B κ′ .own (to-number r) (val (to-number r) ∷ []))) (again r (is .1)) $
+        move ! (3 ∷ []) $ use1 W (‵ (cellAt fullShare (B κ′ .mir) (val (to-number r) ∷ []) b o)) (W .laws .at-raw fullShare (T′.mir erased) b o (val (to-number r))) $
+        move ! (0 ∷ 1 ∷ 4 ∷ 5 ∷ 6 ∷ []) $ closes ! tt (B κ′) (to-number r) (val (to-number r) ∷ []) b o $
+        -- [obs; the borrow; its token; 'a's token; the fields'; _5; …; _4; …; _3; …; _2; …; _1; …; room for _0; …]
+        move ! (4 ∷ 3 ∷ []) $ use2 W (raw (Part 𝓤 H A at-mem run .pre to-part)) goes-part $
+        calls-at ! fm (Part 𝓤 H A at-mem run) known-part to-part (and-then ! (load ! (from ! (stop !)) (look ! 10 refl)) (and-then ! (load ! (from ! (stop !)) (look ! 8 refl)) (and-then ! (load ! (from ! (stop !)) (look ! 6 refl)) (no-more !)))) (λ u′.
+        use1 W (later (some (λ (t : RefT (List ℕ)). ((‵ (flft κ′ q′) ⊛ ‵ ftrue) ⊛ ‵ (ShrSlice (named 0) κ′ u8 .own t (u′ ∷ []))) ⊛ raw (ensured 𝓤 H A part.ended (part.clauses 𝓤 H A at-mem run) (κ′, tt) vd tt t)))) (id⊢ 𝓤 _) $ await ! tt $ pick ! (λ t.
+        split ! $ move ! (1 ∷ []) $ use1 W (raw (fact 𝓤 (now t ≡ bytesOf (now (h .file)) found))) (part-said t) $ heard ! (now t ≡ bytesOf (now (h .file)) found) (λ e′. split ! $ move ! (1 ∷ []) $
+        -- [the part; 'a's token; obs; the borrow; its token; _5; …; _4; …; _3; …; _2; …; _1; …; room for _0; …]
         peeks ! (ShrSlice (named 0) κ′ u8) (Is (ShrSlice (named 0) κ′ u8)) (shows 𝓤 H A (ShrSlice (named 0) κ′ u8)) t (u′ ∷ []) (λ is′.
-        land ! (from ! (stop !)) (init ! 13 refl (shr-slice-lawful 𝓤 H A W (named 1) κ′ u8 .typed t (u′ ∷ []) is′ .0)) $
-        returns ! (look ! 13 refl) $ forget ! 5 refl $ forget ! 7 refl $ forget ! 9 refl $ forget ! 11 refl $ forget ! 13 refl $
-        move ! (13 ∷ 14 ∷ []) $ free1 ! $ move ! (11 ∷ 12 ∷ []) $ free1 ! $ move ! (9 ∷ 10 ∷ []) $ free1 ! $ move ! (7 ∷ 8 ∷ []) $ free1 ! $ move ! (5 ∷ 6 ∷ []) $ free1 ! $ free0 ! $ by ! (exits r t u′ e e′))))))))))))))))
+        land ! (from ! (stop !)) (init ! 15 refl (shr-slice-lawful 𝓤 H A W (named 1) κ′ u8 .typed t (u′ ∷ []) is′ .0)) $
+        returns ! (look ! 15 refl) $ forget ! 5 refl $ forget ! 7 refl $ forget ! 9 refl $ forget ! 11 refl $ forget ! 13 refl $ forget ! 15 refl $
+        move ! (15 ∷ 16 ∷ []) $ free1 ! $ move ! (13 ∷ 14 ∷ []) $ free1 ! $ move ! (11 ∷ 12 ∷ []) $ free1 ! $ move ! (9 ∷ 10 ∷ []) $ free1 ! $ move ! (7 ∷ 8 ∷ []) $ free1 ! $ move ! (5 ∷ 6 ∷ []) $ free1 ! $ free0 ! $ by ! (exits r t u′ e e′)))))))))))))))))
 
 module _ {M : Type 1} (𝓤 : URA M) (H : Heap 𝓤) (A : Atoms 𝓤) (W : Given 𝓤 H A) (mem : Memory → SProp 𝓤) (run : Routine → Fun 𝓤) where
   next-walks : (C : Calls 𝓤 H) (Λ : Loops 𝓤 H) → FmC 𝓤 H (W .laws) C → Triple 𝓤 (C #number-after) (After 𝓤 H A mem run) → Triple 𝓤 (C #part-at) (Part 𝓤 H A mem run)

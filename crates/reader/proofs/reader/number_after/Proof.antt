@@ -1,35 +1,36 @@
--- The number is tested against the file's blocks.
-use mathlib.Core.Path.{_≡_, sym, _∙_}
+-- Only after a block does the number go on, and a block that is given lies in the file.
+use mathlib.Core.Path.{sym, ap, _∙_}
 use native.Mathlib.Omega.{arith}
 use borrow.Author.Needs.{needs}
-use mathlib.Core.Bool.{true}
-use borrow.Author.Tests.{ltb-true}
-use Rattle.image.specs.Block.{blocksIn}
-use Rattle.reader.specs.Reader.{isLeft, afterOf}
+use Rattle.reader.specs.Reader.{afterOf}
+use Rattle.reader.proofs.Blocks.{block-given}
 use Rattle.reader.proofs.reader.number_after.Statement.{statement}
 use Rattle.reader.proofs.reader.number_after.Tie as tie
 
-yes : (c : tie.Then1) → isLeft (c .before .before .before .args .file .now) (c .before .before .before .args .next) ≡ true
-yes c = sym (c .before .is-left .ensures) ∙ c .if1 .taken
-
 add-result : tie.Need-add-result
 add-result c =
-    let left = ltb-true (c .before .before .before .args .next) (blocksIn (c .before .before .before .args .file .now)) (yes c) in
+    let m = c .before .before .before .before in
+    let there = block-given (m .args .file .now) (m .args .next) (m .args .answer) _ (sym (c .before .before .given-as .ensures) ∙ c .enum-told2 .given .1) in
     omega arith
 
 returns : tie.Need-returns
-unfolding afterOf
-returns c = simp (yes c)
+returns c = ap (afterOf (c .before .before .before .before .args .next)) (sym (c .enum-told .given .1) ∙ c .before .before .given-as .ensures)
 
 returns-2 : tie.Need-returns-2
-unfolding afterOf
-returns-2 c = simp (sym (c .before .is-left .ensures) ∙ c .if1 .left)
+returns-2 c = ap (afterOf (c .before .before .before .before .args .next)) (sym (c .enum-told2 .given .1) ∙ c .before .before .given-as .ensures)
+
+returns-3 : tie.Need-returns-3
+returns-3 c = ap (afterOf (c .before .before .before .before .args .next)) (sym (c .enum-told3 .given .1) ∙ c .before .before .given-as .ensures)
 
 pub number-after-spec : {M : Type 1} → statement M
 number-after-spec =
     tie.close
     (tie.spec
     (λ c κs. search needs)
+    (λ c. search needs)
+    (λ c. search needs)
     add-result
+    (λ c. search needs)
     returns
-    returns-2)
+    returns-2
+    returns-3)

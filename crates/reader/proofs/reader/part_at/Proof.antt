@@ -1,43 +1,48 @@
--- The number is tested against the file's blocks, so that the part lies in the file.
-use mathlib.Core.Path.{_≡_, sym, _∙_}
-use Prim.Native.Nat.{_+_, _*_, _≤_}
+-- A block that is given lies in the file, and is the part from its start to its end.
+use mathlib.Core.Path.{_≡_, sym, ap, _∙_}
+use Prim.Native.Nat.{ℕ, _+_, _-_, _≤_}
 use native.Mathlib.Omega.{arith}
 use borrow.Author.Needs.{needs}
-use mathlib.Core.Bool.{true}
-use borrow.Author.Tests.{ltb-true}
-use lib.ListN.{length}
-use Rattle.image.specs.Block.{blocksIn}
-use Rattle.image.proofs.Blocks.{part-is-block}
-use Rattle.reader.specs.Reader.{isLeft, partOf}
+use lib.ListN.{length, take, drop}
+use Rattle.reader.specs.Reader.{bytesOf}
+use Rattle.reader.proofs.Blocks.{block-given}
 use Rattle.reader.proofs.reader.part_at.Statement.{statement}
 use Rattle.reader.proofs.reader.part_at.Tie as tie
 
-yes : (c : tie.Then1) → isLeft (c .before .before .before .args .file .now) (c .before .before .before .args .next) ≡ true
-yes c = sym (c .before .is-left .ensures) ∙ c .if1 .taken
-
-inside : (c : tie.Then1) → 512 * c .before .before .before .args .next + 512 ≤ length (c .before .before .before .args .file .now)
+inside : (c : tie.After-known-told) → c .before .start .given .0 .0 + 512 ≤ length (c .before .before .before .before .before .args .file .now)
 inside c =
-    let left = ltb-true (c .before .before .before .args .next) (blocksIn (c .before .before .before .args .file .now)) (yes c) in
+    let m = c .before .before .before .before .before in
+    let there = block-given (m .args .file .now) (m .args .next) (m .args .answer) (c .before .start .given .0 .0) (sym (c .before .before .before .given-as .ensures) ∙ c .before .start .given .1) in
     omega arith
 
 returns : tie.Need-returns
-unfolding partOf
-returns c = simp (yes (c .before)) (part-is-block (c .before .before .before .before .args .file .now) (c .before .before .before .before .args .next))
+returns c = ap (bytesOf (c .before .before .before .before .before .args .file .now)) (sym (c .before .enum-told .given .1) ∙ c .before .before .before .given-as .ensures)
 
 returns-2 : tie.Need-returns-2
-unfolding partOf
-returns-2 c = simp (sym (c .before .before .is-left .ensures) ∙ c .before .if1 .left)
+returns-2 c =
+    let start = c .before .before .start .given .0 .0 in
+    let file = c .before .before .before .before .before .before .args .file .now in
+    let size : start + 512 - start ≡ 512 = omega arith in
+    ap (λ (n : ℕ). take n (drop start file)) size
+    ∙ ap (bytesOf file) (sym (c .before .before .start .given .1) ∙ c .before .before .before .before .given-as .ensures)
+
+returns-3 : tie.Need-returns-3
+returns-3 c = ap (bytesOf (c .before .before .before .before .before .args .file .now)) (sym (c .before .enum-told2 .given .1) ∙ c .before .before .before .given-as .ensures)
 
 pub part-at-spec : {M : Type 1} → statement M
 part-at-spec =
     tie.close
     (tie.spec
     (λ c κs. search needs)
-    (λ c. omega (arith, inside c))
+    (λ c. search needs)
+    (λ c. search needs)
+    (λ c. search needs)
     (λ c. omega (arith, inside c))
     (λ c. search needs)
     (λ c. search needs)
     inside
     (λ c. search needs)
+    (λ c. search needs)
     returns
-    returns-2)
+    returns-2
+    returns-3)
