@@ -20,11 +20,12 @@ fn cleared() -> Machine {
     }
 }
 
-// How many blocks the file's reader gives before it has none left.
-fn count_blocks(file: &[u8]) -> u64 {
+// How many blocks a reader of the file gives before it has none left, by what the
+// checks said of it.
+fn count_blocks(file: &[u8], answer: Checked) -> u64 {
     let mut n: usize = 0;
     while n < image::MOST_BLOCKS {
-        let Given::Block(_) = reader::given_at(file, n) else {
+        let Given::Block(_) = reader::given_as(file, n, answer) else {
             return n as u64;
         };
         n += 1;
@@ -79,10 +80,11 @@ fn print_window(file: &[u8], budget: u32) {
 
 fn print_blocks(file: &[u8], budget: u32) {
     print(b"Blocks: ");
-    match image::check(file) {
+    let answer = image::check(file);
+    match answer {
         Checked::Refused(r) => print_verdict(Verdict::Refused(r)),
         Checked::Valid(_) => {
-            print_number(count_blocks(file));
+            print_number(count_blocks(file, answer));
             print(b"\n");
             print_window(file, budget);
         }

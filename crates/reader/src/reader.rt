@@ -36,8 +36,9 @@ fn block_at(file: &[u8], next: usize) -> Given
 }
 
 // The answer to a call at block `next` of a file of which the checks said
-// `answer`. Refused, a block and none left are told apart here and nowhere else.
-fn given_as(file: &[u8], next: usize, answer: Checked) -> Given
+// `answer`: for callers that have checked it once and have no reader. Refused, a
+// block and none left are told apart here and nowhere else.
+pub fn given_as(file: &[u8], next: usize, answer: Checked) -> Given
     ensures { λ r. ⌜ r ≡ givenAs (now (file .entry)) next answer ⌝ }
 {
     match answer {
@@ -104,7 +105,8 @@ pub fn next<'s, 'a>(r: &'s mut BlockReader<'a>) -> &'a [u8]
 }
 
 // What the reader of a file answers to its call number `n`, from 0, for callers
-// with no reader. A block has its 512 bytes from where it starts.
+// with no reader, who have not checked the file either. A block has its 512 bytes
+// from where it starts.
 pub fn given_at(file: &[u8], n: usize) -> Given
     ensures { λ r. ⌜ r ≡ givenOf (now (file .entry)) n ⌝ }
 {
