@@ -79,22 +79,22 @@ module _ (code : List ℕ) where
       })
 
   -- at a target nothing is known but the address
-  pub target-values : (j : ℕ) → targeted code j ≡ true → valuesAt code j ≡ standingAt (addressOf j .0) unknownState
-  target-values j e = ap (λ (t : Bool). standingAt (addressOf j .0) (cond t unknownState (entering code j))) e
+  pub target-values : (j : ℕ) → targeted code j ≡ true → valuesAt code j ≡ standingAt (addressOf j) unknownState
+  target-values j e = ap (λ (t : Bool). standingAt (addressOf j) (cond t unknownState (entering code j))) e
 
   -- elsewhere the state is what the instruction above left
   pub next-values : (i : ℕ) (instruction : Instruction) → decodedAt code i ≡ Defined instruction → targeted code (suc i) ≡ false
-      → valuesAt code (suc i) ≡ standingAt (addressOf (suc i) .0) (transferOf (addressOf i .0) instruction (valuesAt code i))
+      → valuesAt code (suc i) ≡ standingAt (addressOf (suc i)) (transferOf (addressOf i) instruction (valuesAt code i))
   unfolding entering
   next-values i instruction e q =
-      ap (λ (t : Bool). standingAt (addressOf (suc i) .0) (cond t unknownState (entering code (suc i)))) q
-      ∙ ap (λ (d : Decoded). standingAt (addressOf (suc i) .0) (afterOf (addressOf i .0) d (valuesAt code i))) e
+      ap (λ (t : Bool). standingAt (addressOf (suc i)) (cond t unknownState (entering code (suc i)))) q
+      ∙ ap (λ (d : Decoded). standingAt (addressOf (suc i)) (afterOf (addressOf i) d (valuesAt code i))) e
 
   -- at address 0 nothing is known either
-  pub first-values : valuesAt code 0 ≡ standingAt (addressOf 0 .0) unknownState
+  pub first-values : valuesAt code 0 ≡ standingAt (addressOf 0) unknownState
   unfolding entering
   first-values = go (targeted code 0)
     where
-      go : (t : Bool) → standingAt (addressOf 0 .0) (cond t unknownState unknownState) ≡ standingAt (addressOf 0 .0) unknownState
+      go : (t : Bool) → standingAt (addressOf 0) (cond t unknownState unknownState) ≡ standingAt (addressOf 0) unknownState
       go true = refl
       go false = refl
