@@ -1,5 +1,6 @@
--- A file is fit exactly when every check gets a yes.
+-- A file is fit exactly when every check gets a yes, and refused by the first no.
 use mathlib.Core.List.{List}
+use mathlib.Core.Logic.{_⊎_, inl, inr}
 use mathlib.Core.Path.{_≡_, refl, sym, ap, _∙_}
 use Prim.Native.Nat.{ℕ, zero, suc, _<_}
 use native.Mathlib.Decide.{ℕ-discrete}
@@ -7,6 +8,7 @@ use native.Mathlib.Nat.{le-refl}
 use native.Mathlib.Omega.{arith}
 use lib.Dec.{eqb}
 use lib.ListN.{length, getD}
+use Rattle.refusals.specs.declared.refusal.Refusal.{Refusal}
 use Rattle.isa.specs.declared.decoder.Decoded.{Decoded}
 use Rattle.isa.specs.declared.decoder.Decoded.the-variants.{Defined, Undefined}
 use Rattle.image.specs.Check.{firstNo, checkOf}
@@ -21,8 +23,9 @@ use Rattle.verifier.specs.Targets.{addressOf, decodedAt}
 use Rattle.verifier.specs.Questions.{halfwordChecks}
 use Rattle.verifier.specs.Verify.{valuesAt, checksAt, codeChecks, verdictBelow, verdictAs, verifyCode, verifyChecked, verifyOf}
 use Rattle.verifier.specs.declared.verifier.Verdict.the-variants.{Fit, Refused}
-use Rattle.verifier.proofs.Walk.{next, fit}
+use Rattle.verifier.proofs.Walk.{next, stands, refusal, fit}
 use Rattle.verifier_laws.specs.Passes.{Passes}
+use Rattle.verifier_laws.specs.Claims.{PassesExactly, RefusedInCode, RefusesExactly}
 
 module _ (code : List ℕ) (layout : Layout) where
   -- ---- one instruction
@@ -68,15 +71,38 @@ module _ (code : List ℕ) (layout : Layout) where
   below-pass (suc n) all =
       next code layout n (below-pass n (λ i h. all i (omega arith))) ∙ checks-pass n (all n (le-refl (suc n)))
 
+  -- the first instruction of those that does not pass, where one does not
+  first-no : (n : ℕ) (r : Refusal) → verdictBelow code layout n ≡ answer.Refused r
+      → (i : ℕ) × (i < n) × ((k : ℕ) → k < i → Passes code layout k) × (firstNo (checksAt code layout i) ≡ answer.Refused r)
+  unfolding verdictBelow codeChecks firstNo
+  first-no zero r e = let z : _≡_ {A = ℕ} 0 1 = cc in absurd (omega arith)
+  first-no (suc n) r e = go (verdictBelow code layout n) refl (first-no n r)
+    where
+      go : (a : Answer) → verdictBelow code layout n ≡ a
+          → (verdictBelow code layout n ≡ answer.Refused r → (i : ℕ) × (i < n) × ((k : ℕ) → k < i → Passes code layout k) × (firstNo (checksAt code layout i) ≡ answer.Refused r))
+          → (i : ℕ) × (i < suc n) × ((k : ℕ) → k < i → Passes code layout k) × (firstNo (checksAt code layout i) ≡ answer.Refused r)
+      go answer.Pass q rest = (n, omega arith, λ k h. below-passes n k q h, sym (next code layout n q) ∙ e)
+      go (answer.Refused s) q rest =
+          let t = rest (q ∙ sym (stands code layout n (suc n) s (omega arith) q) ∙ e) in
+          (t .0, omega (arith, t .1), t .2, t .3)
+
   -- ---- the verdict on the code
 
   fit-answer : (said : Layout) (a : Answer) → verdictAs layout a ≡ Fit said → (a ≡ answer.Pass) × (layout ≡ said)
   fit-answer said answer.Pass e = (refl, cc)
   fit-answer said (answer.Refused r) e = let z : _≡_ {A = ℕ} 0 1 = cc in absurd (omega arith)
 
+  refused-answer : (r : Refusal) (a : Answer) → verdictAs layout a ≡ Refused r → a ≡ answer.Refused r
+  refused-answer r answer.Pass e = let z : _≡_ {A = ℕ} 0 1 = cc in absurd (omega arith)
+  refused-answer r (answer.Refused s) e = cc
+
   code-fit : (said : Layout) → verifyCode code layout ≡ Fit said → (verdictBelow code layout (length code) ≡ answer.Pass) × (layout ≡ said)
   unfolding verifyCode
   code-fit said e = fit-answer said (verdictBelow code layout (length code)) e
+
+  code-refused : (r : Refusal) → verifyCode code layout ≡ Refused r → verdictBelow code layout (length code) ≡ answer.Refused r
+  unfolding verifyCode
+  code-refused r e = refused-answer r (verdictBelow code layout (length code)) e
 
 -- ---- the file
 
@@ -100,6 +126,28 @@ module _ (file : List ℕ) where
         below-passes (codeOf file) layout (length (codeOf file)) i (code-fit (codeOf file) layout layout (checked-fit layout (checkOf file) e .1) .0) h
 
     -- and there is no more to it
-    pub passes-fit : checkOf file ≡ checked.Valid layout → ((i : ℕ) → i < length (codeOf file) → Passes (codeOf file) layout i) → verifyOf file ≡ Fit layout
+    passes-fit : checkOf file ≡ checked.Valid layout → ((i : ℕ) → i < length (codeOf file) → Passes (codeOf file) layout i) → verifyOf file ≡ Fit layout
     unfolding verifyOf
     passes-fit ok all = ap (verifyChecked file) ok ∙ sym (fit (codeOf file) layout (below-pass (codeOf file) layout (length (codeOf file)) all))
+
+  -- a refused file fails one of checks 2 to 8, or has a first instruction that does not pass
+  refused-first : (r : Refusal) (d : Checked) → checkOf file ≡ d → verifyChecked file d ≡ Refused r → (checkOf file ≡ checked.Refused r) ⊎ RefusedInCode file r
+  refused-first r (checked.Valid layout) ok e =
+      let f = first-no (codeOf file) layout (length (codeOf file)) r (code-refused (codeOf file) layout r e) in
+      inr (record { layout = layout; accepted = ok; index = f .0; inside = f .1; before = f .2; no = f .3 })
+  refused-first r (checked.Refused s) ok e = let q : s ≡ r = cc in inl (ok ∙ ap checked.Refused q)
+
+  first-refused : (r : Refusal) → (checkOf file ≡ checked.Refused r) ⊎ RefusedInCode file r → verifyOf file ≡ Refused r
+  unfolding verifyOf
+  first-refused r (inl e) = ap (verifyChecked file) e
+  first-refused r (inr f) =
+      ap (verifyChecked file) (f .accepted)
+      ∙ sym (refusal (codeOf file) (f .layout) (f .index) r (f .inside) (below-pass (codeOf file) (f .layout) (f .index) (f .before)) (f .no))
+
+pub passes-exactly : PassesExactly
+passes-exactly file layout =
+    (λ e. (fit-checked file layout e, fit-passes file layout e), λ p. passes-fit file layout (p .0) (p .1))
+
+pub refuses-exactly : RefusesExactly
+unfolding verifyOf
+refuses-exactly file r = (refused-first file r (checkOf file) refl, first-refused file r)

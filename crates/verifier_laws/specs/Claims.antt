@@ -1,0 +1,35 @@
+-- What is claimed of verdicts ("The questions").
+use mathlib.Core.List.{List}
+use mathlib.Core.Logic.{_⊎_, _↔_}
+use mathlib.Core.Path.{_≡_}
+use Prim.Native.Nat.{ℕ, _<_}
+use lib.ListN.{length}
+use Rattle.refusals.specs.declared.refusal.Refusal.{Refusal}
+use Rattle.image.specs.Check.{firstNo, checkOf}
+use Rattle.image.specs.Code.{codeOf}
+use Rattle.image.specs.declared.answer.Answer.the-variants as answer
+use Rattle.image.specs.declared.checker.Checked.the-variants as checked
+use Rattle.image.specs.declared.checker.Layout.{Layout}
+use Rattle.verifier.specs.Verify.{checksAt, verifyOf}
+use Rattle.verifier.specs.declared.verifier.Verdict.the-variants.{Fit, Refused}
+use Rattle.verifier_laws.specs.Passes.{Passes}
+
+-- a file is fit exactly when checks 2 to 8 accept it, with that layout, and each instruction of its code passes checks 9 to 14
+abbrev pub PassesExactly : Type 0
+PassesExactly =
+    (file : List ℕ) (layout : Layout)
+    → (verifyOf file ≡ Fit layout) ↔ ((checkOf file ≡ checked.Valid layout) × ((i : ℕ) → i < length (codeOf file) → Passes (codeOf file) layout i))
+
+-- an accepted file has an instruction that does not pass: all before it do, and r is the first no of its own checks
+pub record RefusedInCode (file : List ℕ) (r : Refusal) : Type 0 where
+  pub layout : Layout
+  pub accepted : checkOf file ≡ checked.Valid layout
+  pub index : ℕ
+  pub inside : index < length (codeOf file)
+  pub before : (k : ℕ) → k < index → Passes (codeOf file) layout k
+  pub no : firstNo (checksAt (codeOf file) layout index) ≡ answer.Refused r
+
+-- a file is refused exactly by the first no: that of checks 2 to 8, or of the first instruction that does not pass
+abbrev pub RefusesExactly : Type 0
+RefusesExactly =
+    (file : List ℕ) (r : Refusal) → (verifyOf file ≡ Refused r) ↔ ((checkOf file ≡ checked.Refused r) ⊎ RefusedInCode file r)
