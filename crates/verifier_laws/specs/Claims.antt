@@ -1,16 +1,22 @@
--- What is claimed of verdicts ("The questions").
+-- What is claimed of verdicts ("The questions") and of the values along the walk ("Facts the judge carries").
 use mathlib.Core.List.{List}
 use mathlib.Core.Logic.{_⊎_, _↔_}
 use mathlib.Core.Path.{_≡_}
-use Prim.Native.Nat.{ℕ, _<_}
+use Prim.Native.Nat.{ℕ, suc, _+_, _≤_, _<_}
 use lib.ListN.{length}
 use Rattle.refusals.specs.declared.refusal.Refusal.{Refusal}
+use Rattle.isa.specs.declared.decoder.Decoded.the-variants.{Defined}
+use Rattle.isa.specs.declared.instruction.Instruction.the-variants.{AddHigh}
 use Rattle.image.specs.Check.{firstNo, checkOf}
 use Rattle.image.specs.Code.{codeOf}
 use Rattle.image.specs.declared.answer.Answer.the-variants as answer
 use Rattle.image.specs.declared.checker.Checked.the-variants as checked
 use Rattle.image.specs.declared.checker.Layout.{Layout}
-use Rattle.verifier.specs.Verify.{checksAt, verifyOf}
+use Rattle.domain.specs.Value.{largest}
+use Rattle.domain_laws.specs.Ordered.{Ordered}
+use Rattle.verifier.specs.State.{value}
+use Rattle.verifier.specs.Targets.{decodedAt}
+use Rattle.verifier.specs.Verify.{entering, valuesAt, checksAt, verifyOf}
 use Rattle.verifier.specs.declared.verifier.Verdict.the-variants.{Fit, Refused}
 use Rattle.verifier_laws.specs.Passes.{Passes}
 
@@ -33,3 +39,14 @@ pub record RefusedInCode (file : List ℕ) (r : Refusal) : Type 0 where
 abbrev pub RefusesExactly : Type 0
 RefusesExactly =
     (file : List ℕ) (r : Refusal) → (verifyOf file ≡ Refused r) ↔ ((checkOf file ≡ checked.Refused r) ⊎ RefusedInCode file r)
+
+-- every value along the walk of any code has its bounds in order, and they are of 16 bits
+abbrev pub LowBelowHigh : Type 0
+LowBelowHigh = (code : List ℕ) (i r : ℕ) → Ordered (value (valuesAt code i) r)
+
+-- so at every ADD of a walk the lower bound is the plain sum, unless the upper sum exceeds 65,535
+abbrev pub AddsPlainly : Type 0
+AddsPlainly =
+    (code : List ℕ) (i rs rd : ℕ) → decodedAt code i ≡ Defined (AddHigh rs rd)
+    → value (valuesAt code i) rd .high + value (valuesAt code i) rs .high ≤ largest
+    → value (entering code (suc i)) rd .low ≡ value (valuesAt code i) rd .low + value (valuesAt code i) rs .low
