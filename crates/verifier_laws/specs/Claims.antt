@@ -1,4 +1,5 @@
--- What is claimed of verdicts ("The questions") and of the values along the walk ("Facts the judge carries").
+-- What is claimed of verdicts ("The questions") and of the states along the walk ("Facts the judge carries").
+use mathlib.Core.Bool.{true}
 use mathlib.Core.List.{List}
 use mathlib.Core.Logic.{_⊎_, _↔_}
 use mathlib.Core.Path.{_≡_}
@@ -6,6 +7,7 @@ use Prim.Native.Nat.{ℕ, suc, _+_, _≤_, _<_}
 use lib.ListN.{length}
 use Rattle.refusals.specs.declared.refusal.Refusal.{Refusal}
 use Rattle.isa.specs.declared.decoder.Decoded.the-variants.{Defined}
+use Rattle.isa.specs.declared.instruction.Instruction.{Instruction}
 use Rattle.isa.specs.declared.instruction.Instruction.the-variants.{AddHigh}
 use Rattle.image.specs.Check.{firstNo, checkOf}
 use Rattle.image.specs.Code.{codeOf}
@@ -14,11 +16,11 @@ use Rattle.image.specs.declared.checker.Checked.the-variants as checked
 use Rattle.image.specs.declared.checker.Layout.{Layout}
 use Rattle.domain.specs.Value.{largest}
 use Rattle.domain_laws.specs.Ordered.{Ordered}
-use Rattle.verifier.specs.State.{value}
-use Rattle.verifier.specs.Targets.{decodedAt}
+use Rattle.verifier.specs.State.{value, unknownState, standingAt, transferOf}
+use Rattle.verifier.specs.Targets.{addressOf, decodedAt, targeted}
 use Rattle.verifier.specs.Verify.{entering, valuesAt, checksAt, verifyOf}
 use Rattle.verifier.specs.declared.verifier.Verdict.the-variants.{Fit, Refused}
-use Rattle.verifier_laws.specs.Passes.{Passes}
+use Rattle.verifier_laws.specs.Passes.{Passes, Reached}
 
 -- a file is fit exactly when checks 2 to 8 accept it, with that layout, and each instruction of its code passes checks 9 to 14
 abbrev pub PassesExactly : Type 0
@@ -39,6 +41,21 @@ pub record RefusedInCode (file : List ℕ) (r : Refusal) : Type 0 where
 abbrev pub RefusesExactly : Type 0
 RefusesExactly =
     (file : List ℕ) (r : Refusal) → (verifyOf file ≡ Refused r) ↔ ((checkOf file ≡ checked.Refused r) ⊎ RefusedInCode file r)
+
+-- an instruction is a branch target exactly when some branch of the code goes to it
+abbrev pub TargetsExactly : Type 0
+TargetsExactly = (code : List ℕ) (j : ℕ) → (targeted code j ≡ true) ↔ Reached code j
+
+-- the states along a code: at address 0 and at branch targets only the address is known; elsewhere the state is what the instruction above leaves, be
+-- it a branch or not
+pub record StatesAlong (code : List ℕ) : Type 0 where
+  pub first : valuesAt code 0 ≡ standingAt (addressOf 0) unknownState
+  pub target : (j : ℕ) → Reached code j → valuesAt code j ≡ standingAt (addressOf j) unknownState
+  pub next : (i : ℕ) (instruction : Instruction) → decodedAt code i ≡ Defined instruction → (Reached code (suc i) → ⊥)
+      → valuesAt code (suc i) ≡ standingAt (addressOf (suc i)) (transferOf (addressOf i) instruction (valuesAt code i))
+
+abbrev pub ForgetsAtTargets : Type 0
+ForgetsAtTargets = (code : List ℕ) → StatesAlong code
 
 -- every value along the walk of any code has its bounds in order, and they are of 16 bits
 abbrev pub LowBelowHigh : Type 0
