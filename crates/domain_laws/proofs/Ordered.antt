@@ -4,7 +4,7 @@ use mathlib.Core.Path.{_≡_, refl}
 use Prim.Native.Nat.{ℕ, _+_, _-_, _≤_, min, max, zero-le}
 use native.Mathlib.Nat.{le-refl}
 use native.Mathlib.Omega.{arith}
-use borrow.Author.Tests.{ltb-false, le-ltb, leb-true}
+use borrow.Author.Tests.{ltb-false, le-ltb}
 use lib.Count.{leadingZeros}
 use lib.Dec.{ltb, leb}
 use lib.Pow.{pow-mono}

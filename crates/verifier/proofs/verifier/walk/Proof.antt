@@ -21,7 +21,6 @@ use Rattle.verifier.specs.Words.{stateOf}
 use Rattle.verifier.specs.Targets.{targeted}
 use Rattle.verifier.specs.Questions.{answerAt}
 use Rattle.verifier.specs.Verify.{entering, valuesAt, checksAt, codeChecks, verdictBelow}
-use Rattle.verifier.specs.declared.verifier.Verdict.the-variants.{Fit}
 use Rattle.verifier.proofs.Accepted.{count-is, position-inside, position-small, halfword-is}
 use Rattle.verifier.proofs.Position.{position-next}
 use Rattle.verifier.proofs.Walk.{arrives, length-values, answer-refused, next, refusal, fit, checked, left}
