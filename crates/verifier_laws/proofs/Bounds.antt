@@ -98,4 +98,4 @@ adds-plainly code i rs rd e fits =
     let inside : rd < length s = omega (arith, narrow code i (AddHigh rs rd) e .1, length-values code i) in
     ap (λ (d : Decoded). value (afterOf (addressOf i) d (valuesAt code i)) rd .low) e
     ∙ ap (λ (v : Value). v .low) (getD-set-same (valuesAt code i) rd (addOf (value s rd) (value s rs)) unknownOf inside)
-    ∙ add-low (value s rd) (value s rs) (low-below-high code i rd) (low-below-high code i rs) fits
+    ∙ add-low (value s rd) (value s rs) (low-below-high code i rd) (low-below-high code i rs) (omega arith)

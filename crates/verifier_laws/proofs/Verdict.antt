@@ -134,7 +134,7 @@ module _ (file : List ℕ) where
   refused-first : (r : Refusal) (d : Checked) → checkOf file ≡ d → verifyChecked file d ≡ Refused r → (checkOf file ≡ checked.Refused r) ⊎ RefusedInCode file r
   refused-first r (checked.Valid layout) ok e =
       let f = first-no (codeOf file) layout (length (codeOf file)) r (code-refused (codeOf file) layout r e) in
-      inr (record { layout = layout; accepted = ok; index = f .0; inside = f .1; before = f .2; no = f .3 })
+      inr (record { layout = layout; accepted = ok; index = f .0; inside = f .1; before = λ k h. f .2 k (omega arith); no = f .3 })
   refused-first r (checked.Refused s) ok e = let q : s ≡ r = cc in inl (ok ∙ ap checked.Refused q)
 
   first-refused : (r : Refusal) → (checkOf file ≡ checked.Refused r) ⊎ RefusedInCode file r → verifyOf file ≡ Refused r
@@ -142,11 +142,11 @@ module _ (file : List ℕ) where
   first-refused r (inl e) = ap (verifyChecked file) e
   first-refused r (inr f) =
       ap (verifyChecked file) (f .accepted)
-      ∙ sym (refusal (codeOf file) (f .layout) (f .index) r (f .inside) (below-pass (codeOf file) (f .layout) (f .index) (f .before)) (f .no))
+      ∙ sym (refusal (codeOf file) (f .layout) (f .index) r (f .inside) (below-pass (codeOf file) (f .layout) (f .index) (λ k h. f .before k (omega arith))) (f .no))
 
 pub passes-exactly : PassesExactly
 passes-exactly file layout =
-    (λ e. (fit-checked file layout e, fit-passes file layout e), λ p. passes-fit file layout (p .0) (p .1))
+    (λ e. (fit-checked file layout e, λ i h. fit-passes file layout e i (omega arith)), λ p. passes-fit file layout (p .0) (λ i h. p .1 i (omega arith)))
 
 pub refuses-exactly : RefusesExactly
 unfolding verifyOf
