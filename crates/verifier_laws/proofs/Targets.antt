@@ -1,7 +1,7 @@
 -- Branch targets, and the state along the code.
-use mathlib.Core.Bool.{Bool, true, false, cond, _||_}
+use mathlib.Core.Bool.{Bool, true, false, cond, _||_, or-true}
 use mathlib.Core.List.{List}
-use mathlib.Core.Path.{_≡_, refl, ap, subst, _∙_}
+use mathlib.Core.Path.{_≡_, refl, ap, _∙_}
 use Prim.Native.Nat.{ℕ, zero, suc, _<_}
 use native.Mathlib.Decide.{ℕ-discrete}
 use native.Mathlib.Omega.{arith}
@@ -15,14 +15,6 @@ use Rattle.verifier.specs.Verify.{entering, valuesAt}
 use Rattle.verifier_laws.specs.Passes.{Reached}
 use Rattle.verifier_laws.specs.Claims.{TargetsExactly, ForgetsAtTargets}
 
-or-left : (a b : Bool) → a ≡ true → (a || b) ≡ true
-or-left true b e = refl
-or-left false b e = ap (λ (t : Bool). t || b) e
-
-or-right : (a b : Bool) → b ≡ true → (a || b) ≡ true
-or-right true b e = refl
-or-right false b e = e
-
 module _ (code : List ℕ) (j : ℕ) where
   reached-below : (n k : ℕ) → k < n → goesTo code k j ≡ true → targetedBelow code n j ≡ true
   unfolding targetedBelow
@@ -30,8 +22,8 @@ module _ (code : List ℕ) (j : ℕ) where
   reached-below (suc n) k h e = go (ℕ-discrete k n) (λ b. reached-below n k b e)
     where
       go : Dec (k ≡ n) → (k < n → targetedBelow code n j ≡ true) → (goesTo code n j || targetedBelow code n j) ≡ true
-      go (yes q) rest = or-left (goesTo code n j) (targetedBelow code n j) (subst (λ (m : ℕ). goesTo code m j ≡ true) q e)
-      go (no q) rest = or-right (goesTo code n j) (targetedBelow code n j) (rest (omega arith))
+      go (yes q) rest = rw (← q, e) refl
+      go (no q) rest = rw (rest (omega arith)) (or-true (goesTo code n j))
 
   below-reached : (n : ℕ) → targetedBelow code n j ≡ true → (k : ℕ) × (k < n) × (goesTo code k j ≡ true)
   unfolding targetedBelow
