@@ -52,7 +52,7 @@ addHighOf rs rd m =
 
 -- ADD(2): the PC with its two low bits cleared, plus 4 times the immediate; no flag
 unfoldable pub addPcOf : ℕ → ℕ → Machine → Machine
-addPcOf rd imm m = machine (written (m .regs) rd (pcSum (pc m) imm)) (flags m)
+addPcOf rd imm m = machine (written (m .regs) rd (pcSum (record { 0 = pc m }) imm)) (flags m)
 
 -- AND
 unfoldable pub andOf : ℕ → ℕ → Machine → Machine

@@ -26,8 +26,8 @@ unknownOf = intervalOf 0 largest 0
 abbrev pub exactlyOf : ℕ → Value
 exactlyOf x = intervalOf x x 0
 
--- ADD. Where the sum of the upper bounds does not fit, every number is possible. (The lower sum is cut only where a lower bound is above its upper
--- bound, which no rule makes.)
+-- ADD. Where the sum of the upper bounds does not fit, every number is possible. (The lower sum would be cut only where a lower bound is above its
+-- upper bound. No value of a walk has such bounds: `LowBelowHigh` and `AddsPlainly` of verifier_laws.)
 unfoldable pub addOf : Value → Value → Value
 addOf a b =
     cond (ltb largest (a .high + b .high))

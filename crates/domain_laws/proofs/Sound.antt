@@ -41,10 +41,6 @@ exactly-sound x h = interval-sound x x 0 x (le-refl x) (le-refl x) (mod-one x) (
 pub byte-sound : (x : ℕ) → x < 256 → Holds byteOf x
 byte-sound x h = interval-sound 0 255 0 x zero-le (omega arith) (mod-one x) (omega arith) zero-le
 
--- a value's number has 16 bits
-pub holds-word : (v : Value) (x : ℕ) → Holds v x → x < 65536
-holds-word v x h = omega (arith, h .high, h .word)
-
 pub neg-sound : (v : Value) (x : ℕ) → Holds v x → Holds (negOf v) ((65536 - x) % 65536)
 neg-sound v x h =
     interval-sound 0 largest (v .zeros) ((65536 - x) % 65536) zero-le (omega arith) (zeros-neg x (v .zeros) (h .count) (h .zeros)) (le-refl largest) (h .count)

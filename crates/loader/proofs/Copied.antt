@@ -1,10 +1,12 @@
--- Memory with code copied to its start, and with a part of it cleared.
+-- Memory with code copied to its start.
 use mathlib.Core.List.{List}
-use mathlib.Core.Path.{_≡_, refl}
-use Prim.Native.Nat.{ℕ, zero, suc, _+_, _*_}
+use mathlib.Core.Path.{_≡_, refl, _∙_}
+use Prim.Native.Nat.{ℕ, zero, suc, _+_}
 use native.Mathlib.Numerals.{add-one}
 use lib.ListN.{length, length-set}
+use Rattle.units.specs.Address.{byteAddressOf}
 use Rattle.units.specs.Bytes.{withHalfword}
+use Rattle.units.specs.declared.address.ByteAddress.{ByteAddress}
 use Rattle.image.specs.Code.{codeAt}
 use Rattle.loader.specs.Copy.{withCode}
 
@@ -13,9 +15,10 @@ unfolding withCode
 code-none file memory = refl
 
 -- one instruction more
-pub code-more : (file memory now : List ℕ) (i h a : ℕ) → now ≡ withHalfword (withCode file i memory) a h → h ≡ codeAt file i → a ≡ 2 * i → now ≡ withCode file (i + 1) memory
+pub code-more : (file memory before now : List ℕ) (i h : ℕ) (a : ByteAddress) → before ≡ withCode file i memory → h ≡ codeAt file i
+    → a ≡ byteAddressOf (record { 0 = i }) → now ≡ withHalfword before (a .0) h → now ≡ withCode file (i + 1) memory
 unfolding withCode
-code-more file memory now i h a e eh ea = rw (add-one i, ← eh, ← ea) e
+code-more file memory before now i h a eb eh ea e = e ∙ rw (add-one i, eb, eh, ea) refl
 
 pub code-long : (file memory : List ℕ) (i : ℕ) → length (withCode file i memory) ≡ length memory
 unfolding withCode

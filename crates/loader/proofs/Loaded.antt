@@ -10,7 +10,7 @@ use lib.Dec.{eqb}
 use lib.ListN.{length, getD, set, take, drop, replicate, length-set, length-take, length-drop, length-append, length-replicate, getD-replicate, List·getD-append}
 use lib.Seq.{getD-set-same, getD-set-other, getD-take, getD-drop, getD-append-add, ext-getD}
 use Rattle.units.specs.Bytes.{byteOf, withHalfword}
-use Rattle.units.specs.Address.{memoryBytes}
+use Rattle.units.specs.Address.{wrap, memoryBytes}
 use Rattle.image.proofs.Lists.{length-tabulate, tabulate-at}
 use Rattle.image.specs.Code.{codeAt, codeOf}
 use Rattle.image.specs.declared.checker.Layout.{Layout}
@@ -44,19 +44,25 @@ apart l i h a n =
     getD-set-other (set l (2 * i) (h % 256)) (2 * i + 1) a (h / 256) 0 p ∙ getD-set-other l (2 * i) a (h % 256) 0 q
 
 module _ (file memory : List ℕ) where
-  pub code-in : (n a : ℕ) → 2 * n ≤ length memory → a < 2 * n → getD (withCode file n memory) a 0 ≡ byteOf (codeAt file (a / 2)) (a % 2)
+  -- a code that fits memory has no address that wraps
+  more : (i : ℕ) → 2 * suc i ≤ memoryBytes → withCode file (suc i) memory ≡ withHalfword (withCode file i memory) (2 * i) (codeAt file i)
   unfolding withCode
-  code-in zero a h b = absurd (omega arith)
-  code-in (suc i) a h b = go (ℕ-discrete (a / 2) i) (λ k. code-in i a (omega arith) k)
+  more i fits = let e : wrap (2 * i) ≡ 2 * i = omega arith in rw e refl
+
+  pub code-in : (n a : ℕ) → 2 * n ≤ memoryBytes → 2 * n ≤ length memory → a < 2 * n → getD (withCode file n memory) a 0 ≡ byteOf (codeAt file (a / 2)) (a % 2)
+  code-in zero a fits h b = absurd (omega arith)
+  code-in (suc i) a fits h b = rw (more i fits) (go (ℕ-discrete (a / 2) i) (λ k. code-in i a (omega arith) (omega arith) k))
     where
       go : Dec (a / 2 ≡ i) → (a < 2 * i → getD (withCode file i memory) a 0 ≡ byteOf (codeAt file (a / 2)) (a % 2)) → getD (withHalfword (withCode file i memory) (2 * i) (codeAt file i)) a 0 ≡ byteOf (codeAt file (a / 2)) (a % 2)
       go (yes e) rest = stored (withCode file i memory) i (codeAt file i) a (omega (arith, code-long file memory i)) e ∙ ap (λ (k : ℕ). byteOf (codeAt file k) (a % 2)) (sym e)
       go (no n) rest = apart (withCode file i memory) i (codeAt file i) a n ∙ rest (omega arith)
 
-  pub code-past : (n a : ℕ) → 2 * n ≤ a → getD (withCode file n memory) a 0 ≡ getD memory a 0
+  pub code-past : (n a : ℕ) → 2 * n ≤ memoryBytes → 2 * n ≤ a → getD (withCode file n memory) a 0 ≡ getD memory a 0
   unfolding withCode
-  code-past zero a h = refl
-  code-past (suc i) a h = let n : a / 2 ≡ i → ⊥ = omega arith in apart (withCode file i memory) i (codeAt file i) a n ∙ code-past i a (omega arith)
+  code-past zero a fits h = refl
+  code-past (suc i) a fits h =
+      let n : a / 2 ≡ i → ⊥ = omega arith in
+      ap (λ (l : List ℕ). getD l a 0) (more i fits) ∙ apart (withCode file i memory) i (codeAt file i) a n ∙ code-past i a (omega arith) (omega arith)
 
 -- ---- the window
 
@@ -105,6 +111,9 @@ module _ (file : List ℕ) (layout : Layout) (memory : List ℕ) (n : ℕ) (size
   abbrev copied : List ℕ
   copied = withCode file n memory
 
+  code-fits : 2 * n ≤ memoryBytes
+  code-fits = omega (arith, size, after, fits)
+
   copied-long : length copied ≡ memoryBytes
   copied-long = code-long file memory n ∙ whole
 
@@ -112,11 +121,11 @@ module _ (file : List ℕ) (layout : Layout) (memory : List ℕ) (n : ℕ) (size
   unfolding codeByte
   in-code a h =
       cleared-before copied w e (omega arith) (omega (arith, copied-long)) a (omega (arith, size, after))
-      ∙ code-in file memory n a (omega (arith, whole, size, after, fits)) h
+      ∙ code-in file memory n a code-fits (omega (arith, whole, code-fits)) h
       ∙ ap (λ (x : ℕ). byteOf x (a % 2)) (sym (code (a / 2) (omega arith)))
 
   between : (a : ℕ) → 2 * n ≤ a → a < w → getD (cleared w e copied) a 0 ≡ getD memory a 0
-  between a h k = cleared-before copied w e (omega arith) (omega (arith, copied-long)) a k ∙ code-past file memory n a h
+  between a h k = cleared-before copied w e (omega arith) (omega (arith, copied-long)) a k ∙ code-past file memory n a code-fits h
 
   in-window : (a : ℕ) → w ≤ a → a < e → getD (cleared w e copied) a 0 ≡ 0
   in-window a h k =
@@ -127,7 +136,7 @@ module _ (file : List ℕ) (layout : Layout) (memory : List ℕ) (n : ℕ) (size
   past-window a h =
       let q : a ≡ e + (a - e) = omega arith in
       ap (λ (b : ℕ). getD (cleared w e copied) b 0) q ∙ cleared-after copied w e (omega arith) (omega (arith, copied-long)) (a - e)
-      ∙ ap (λ (b : ℕ). getD copied b 0) (sym q) ∙ code-past file memory n a (omega (arith, size, after))
+      ∙ ap (λ (b : ℕ). getD copied b 0) (sym q) ∙ code-past file memory n a code-fits (omega (arith, size, after))
 
   byte-is : (a : ℕ) → getD (cleared w e copied) a 0 ≡ loadedByte file layout memory a
   byte-is a = go (decLt a (layout .«code_bytes»)) (decLt a w) (decLt a e)

@@ -1,14 +1,15 @@
 -- The two things that a load does to memory ("Loading"). Only the contracts of private functions speak of it.
 use mathlib.Core.List.{List, _++_}
-use Prim.Native.Nat.{ℕ, zero, suc, _-_, _*_}
+use Prim.Native.Nat.{ℕ, zero, suc, _-_}
 use lib.ListN.{take, drop, replicate}
+use Rattle.units.specs.Address.{byteAddressOf}
 use Rattle.units.specs.Bytes.{withHalfword}
 use Rattle.image.specs.Code.{codeAt}
 
 -- the first n instructions of a file copied to address 0
 unfoldable pub withCode : List ℕ → ℕ → List ℕ → List ℕ
 withCode file zero memory = memory
-withCode file (suc i) memory = withHalfword (withCode file i memory) (2 * i) (codeAt file i)
+withCode file (suc i) memory = withHalfword (withCode file i memory) (byteAddressOf (record { 0 = i }) .0) (codeAt file i)
 
 -- the bytes from one address up to another set to 0
 unfoldable pub cleared : ℕ → ℕ → List ℕ → List ℕ

@@ -1,11 +1,11 @@
 -- Loading ("The questions", "Loading"): check 1, the verifier's checks, and the memory that a load leaves.
 use mathlib.Core.Bool.{Bool, _&&_, cond}
 use mathlib.Core.List.{List}
-use Prim.Native.Nat.{ℕ, _+_, _/_, _%_}
+use Prim.Native.Nat.{ℕ, _+_, _%_}
 use lib.Dec.{eqb, leb, ltb}
 use lib.ListN.{length, getD}
 use Rattle.units.specs.Bytes.{byteOf}
-use Rattle.units.specs.Address.{memoryBytes}
+use Rattle.units.specs.Address.{instructionIndexOf, memoryBytes}
 use Rattle.refusals.specs.Refusal.{refusal}
 use Rattle.image.specs.Code.{codeOf}
 use Rattle.image.specs.Format.{tabulate}
@@ -16,9 +16,9 @@ use Rattle.verifier.specs.declared.verifier.Verdict.the-variants as verdict
 use Rattle.loader.specs.declared.loader.Loaded.{Loaded}
 use Rattle.loader.specs.declared.loader.Loaded.the-variants.{Done, Refused}
 
--- byte a of an image's code
+-- byte a of an image's code: one of the two of the instruction that it belongs to
 unfoldable pub codeByte : List ℕ → ℕ → ℕ
-codeByte file a = byteOf (getD (codeOf file) (a / 2) 0) (a % 2)
+codeByte file a = byteOf (getD (codeOf file) (instructionIndexOf (record { 0 = a }) .0) 0) (a % 2)
 
 -- byte a is one of the window
 abbrev pub inWindow : Layout → ℕ → Bool

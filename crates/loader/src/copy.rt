@@ -8,16 +8,17 @@ ghost use Rattle.image.specs.Code.{codePosition};
 ghost use Rattle.loader.specs.Copy.{withCode, cleared};
 
 // Copies the first `count` instructions of a file to address 0.
-pub(crate) fn copy_code(file: &[u8], memory: &mut [u8], count: u16)
-    requires { ⌜ ((i : ℕ) → i < count → codePosition i + 2 ≤ length (now file)) ⌝ }
-    requires { ⌜ 2 * count ≤ length (now memory) ⌝ }
-    ensures { λ _. ⌜ now (memory .exit) ≡ withCode (now (file .entry)) count (now (memory .entry)) ⌝ }
+pub(crate) fn copy_code(file: &[u8], memory: &mut [u8], count: InstructionIndex)
+    requires { ⌜ ((i : ℕ) → i < count .0 → codePosition i + 2 ≤ length (now file)) ⌝ }
+    requires { ⌜ 2 * count .0 ≤ length (now memory) ⌝ }
+    ensures { λ _. ⌜ now (memory .exit) ≡ withCode (now (file .entry)) (count .0) (now (memory .entry)) ⌝ }
 {
-    let mut i: u16 = 0;
-    while i < count {
-        let h = image::code_at(file, InstructionIndex(i));
-        put_halfword(memory, 2 * (i as usize), h);
-        i += 1;
+    let mut i = InstructionIndex(0);
+    while i.0 < count.0 {
+        let h = image::code_at(file, i);
+        let a = units::byte_address(i);
+        put_halfword(memory, a.0 as usize, h);
+        i = InstructionIndex(i.0 + 1);
     }
 }
 

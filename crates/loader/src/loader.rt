@@ -4,6 +4,7 @@ use super::copy::copy_code;
 use image::Layout;
 use refusals::Refusal;
 use refusals::refusal_of;
+use units::ByteAddress;
 use units::MEMORY_BYTES;
 use verifier::Verdict;
 ghost use mathlib.Core.Path.{_≡_};
@@ -27,7 +28,8 @@ fn place(file: &[u8], layout: Layout, memory: &mut [u8])
 {
     let start = layout.window_start as usize;
     let end = start + layout.window_length as usize;
-    copy_code(file, memory, layout.code_bytes / 2);
+    let count = units::instruction_index(ByteAddress(layout.code_bytes));
+    copy_code(file, memory, count);
     clear_window(memory, start, end);
 }
 

@@ -1,5 +1,6 @@
 -- Refusals ("The questions"): the number of the first check that failed, and its place.
 use Prim.Native.Nat.{ℕ}
+use Rattle.units.specs.declared.address.ByteAddress.{ByteAddress}
 use Rattle.refusals.specs.declared.refusal.Place.{Place}
 use Rattle.refusals.specs.declared.refusal.Place.the-variants.{Nowhere, Block, Address}
 use Rattle.refusals.specs.declared.refusal.Refusal.{Refusal}
@@ -13,8 +14,8 @@ abbrev pub refusalInBlock : ℕ → ℕ → Refusal
 refusalInBlock number block = record { number = number; place = Block block }
 
 -- at the byte address of an instruction: checks 9 to 14
-abbrev pub refusalAt : ℕ → ℕ → Refusal
-refusalAt number address = record { number = number; place = Address (record { 0 = address }) }
+abbrev pub refusalAt : ℕ → ByteAddress → Refusal
+refusalAt number a = record { number = number; place = Address a }
 
 -- the papers' one number for a place: the block, the byte address, or 0
 abbrev pub placeNumber : Place → ℕ

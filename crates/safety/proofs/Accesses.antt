@@ -62,7 +62,7 @@ in-window x low high offset size w l a b s p q m = (omega arith, omega arith)
 
 pub access-safe : (s : State) (m : Machine) (layout : Layout) (i : Instruction) → Narrow i → HoldsBelow 16 s (m .regs)
     → layout .«window_start» + layout .«window_length» ≤ 65536
-    → check10 (value s (accessOf i .base)) (layout .«window_start») (layout .«window_length») (accessOf i) ≡ true
+    → check10 (value s (accessOf i .base)) layout (accessOf i) ≡ true
     → check11 (value s (accessOf i .base)) (accessOf i) ≡ true
     → SafeAccess layout m (accessOf i)
 access-safe s m layout i narrow holds fits c10 c11 = record { inside = inside; aligned = aligned }

@@ -20,7 +20,7 @@ pub record FitCode (code : List ℕ) (layout : Layout) : Type 0 where
   pub short : length code ≤ 15936
   pub after-code : layout .«code_bytes» ≤ layout .«window_start»
   pub in-memory : layout .«window_start» + layout .«window_length» ≤ 65536
-  pub passed : (i : ℕ) → i < length code → Passes code (layout .«window_start») (layout .«window_length») i
+  pub passed : (i : ℕ) → i < length code → Passes code layout i
   pub hits : (i j : ℕ) → i < length code → goesTo code i j ≡ true → targeted code j ≡ true
 
 pub fit-code : (file : List ℕ) (layout : Layout) → verifyOf file ≡ Fit layout → FitCode (codeOf file) layout

@@ -62,7 +62,7 @@ module _ (code : List ℕ) (layout : Layout) (start : List ℕ) (fit : FitCode c
   pub arrive : (i : ℕ) (regs : List ℕ) → i < length code → getD regs 15 0 ≡ 2 * i → Registers regs
       → (targeted code i ≡ false → HoldsBelow 15 (entering code i) regs) → HoldsBelow 16 (valuesAt code i) regs
   arrive i regs h e sized holds =
-      standing-holds (addressOf i .0) (targeted code i) (entering code i) regs (omega arith) (e ∙ sym (address-is i h)) (length-entering code i) sized holds
+      standing-holds (addressOf i) (targeted code i) (entering code i) regs (omega arith) (e ∙ sym (address-is i h)) (length-entering code i) sized holds
 
   module _ (s : State) (inv : Inv code layout start s) where
     abbrev m : Machine
@@ -134,25 +134,25 @@ module _ (code : List ℕ) (layout : Layout) (start : List ℕ) (fit : FitCode c
         }
 
     -- what falls into the next instruction is what this one leaves
-    entered : entering code (suc i) ≡ transferOf (pc m) ins (valuesAt code i)
+    entered : entering code (suc i) ≡ transferOf (record { 0 = pc m }) ins (valuesAt code i)
     unfolding entering
     entered =
-        ap (λ (d : Decoded). afterOf (addressOf i .0) d (valuesAt code i)) (fit .passed (inv .index) (inv .inside) .passes9)
-        ∙ ap (λ (a : ℕ). transferOf a ins (valuesAt code i)) (address-is i (inv .inside) ∙ sym (inv .here))
+        ap (λ (d : Decoded). afterOf (addressOf i) d (valuesAt code i)) (fit .passed (inv .index) (inv .inside) .passes9)
+        ∙ ap (λ (a : ByteAddress). transferOf a ins (valuesAt code i)) here-is
 
     -- by falling into the next instruction
-    fell : (ins ≡ Halt → ⊥) → Moved (transferOf (pc m) ins (valuesAt code i)) regs′ (wrap (pc m + 2)) → Inv code layout start (executeOf ins m (s .memory) .state)
+    fell : (ins ≡ Halt → ⊥) → Moved (transferOf (record { 0 = pc m }) ins (valuesAt code i)) regs′ (wrap (pc m + 2)) → Inv code layout start (executeOf ins m (s .memory) .state)
     fell h moved =
         let j : suc i < length code = not-last h in
         arrived (suc i) j (omega (arith, moved .pc, inv .here, fit .short))
         (λ f. rw entered (moved .holds))
 
     -- by a branch
-    branched : (t : ByteAddress) → jumpOf (record { 0 = pc m }) ins ≡ To t → t .0 % 2 ≡ 0 → Moved (transferOf (pc m) ins (valuesAt code i)) regs′ (t .0)
+    branched : (t : ByteAddress) → jumpOf (record { 0 = pc m }) ins ≡ To t → t .0 % 2 ≡ 0 → Moved (transferOf (record { 0 = pc m }) ins (valuesAt code i)) regs′ (t .0)
         → Inv code layout start (executeOf ins m (s .memory) .state)
     unfolding goesTo
     branched t e even-t moved =
-        let below : t .0 < layout .«code_bytes» = ltb-true _ _ (simp (← fit .size, here-is, e) at (fit .passed (inv .index) (inv .inside) .passes13)) in
+        let below : t .0 < layout .«code_bytes» = ltb-true _ _ (simp (here-is, e) at (fit .passed (inv .index) (inv .inside) .passes13)) in
         let hit : targeted code (t .0 / 2) ≡ true = fit .hits i (t .0 / 2) (inv .inside) (simp (fit .passed (inv .index) (inv .inside) .passes9, here-is, e) (eq-eqb (t .0 / 2) (t .0 / 2) refl)) in
         arrived (t .0 / 2) (omega (arith, fit .size)) (omega (arith, moved .pc))
         (λ f. absurd (false≢true (sym f ∙ hit)))

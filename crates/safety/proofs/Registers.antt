@@ -8,6 +8,7 @@ use native.Mathlib.Omega.{arith}
 use lib.ListN.{length, getD, set, length-set, getD-replicate}
 use lib.Seq.{getD-set-same, getD-set-other}
 use Rattle.units.specs.Address.{wrap}
+use Rattle.units.specs.declared.address.ByteAddress.{ByteAddress}
 use Rattle.domain.specs.Value.{unknownOf, exactlyOf}
 use Rattle.domain.specs.declared.value.Value.{Value}
 use Rattle.domain_laws.specs.Holds.{Holds}
@@ -70,10 +71,10 @@ forget-long true s h = refl
 forget-long false s h = h
 
 -- the address is known: R15 holds it
-pub standing-holds : (a : ℕ) (t : Bool) (s : State) (regs : List ℕ) → a < 65536 → getD regs 15 0 ≡ a → length s ≡ 16 → Registers regs
+pub standing-holds : (a : ByteAddress) (t : Bool) (s : State) (regs : List ℕ) → a .0 < 65536 → getD regs 15 0 ≡ a .0 → length s ≡ 16 → Registers regs
     → (t ≡ false → HoldsBelow 15 s regs) → HoldsBelow 16 (standingAt a (cond t unknownState s)) regs
 standing-holds a t s regs ha e hs hr h r hl = go (ℕ-discrete r 15)
   where
     go : Dec (r ≡ 15) → Holds (value (standingAt a (cond t unknownState s)) r) (getD regs r 0)
-    go (yes q) = rw (q, getD-set-same (cond t unknownState s) 15 (exactlyOf a) unknownOf (omega (arith, forget-long t s hs)), e) (exactly-sound a ha)
-    go (no q) = rw (getD-set-other (cond t unknownState s) 15 r (exactlyOf a) unknownOf q) (forget-holds t s regs hr h r (omega arith))
+    go (yes q) = rw (q, getD-set-same (cond t unknownState s) 15 (exactlyOf (a .0)) unknownOf (omega (arith, forget-long t s hs)), e) (exactly-sound (a .0) ha)
+    go (no q) = rw (getD-set-other (cond t unknownState s) 15 r (exactlyOf (a .0)) unknownOf q) (forget-holds t s regs hr h r (omega arith))

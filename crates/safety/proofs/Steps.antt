@@ -48,8 +48,8 @@ shift-less a k h =
 -- a completed step: the values move on as the transfer says, to the next instruction or to where it jumps
 pub record Completes (s : State) (i : Instruction) (m : Machine) (r : StepResult) : Type 0 where
   pub outcome : r .outcome ≡ Completed
-  pub moved : Moved (transferOf (pc m) i s) (r .state .machine .regs) (wrap (pc m + 2))
-      ⊎ ((t : ByteAddress) × (jumpOf (record { 0 = pc m }) i ≡ To t) × (pc m % 2 ≡ 0 → t .0 % 2 ≡ 0) × Moved (transferOf (pc m) i s) (r .state .machine .regs) (t .0))
+  pub moved : Moved (transferOf (record { 0 = pc m }) i s) (r .state .machine .regs) (wrap (pc m + 2))
+      ⊎ ((t : ByteAddress) × (jumpOf (record { 0 = pc m }) i ≡ To t) × (pc m % 2 ≡ 0 → t .0 % 2 ≡ 0) × Moved (transferOf (record { 0 = pc m }) i s) (r .state .machine .regs) (t .0))
 
 module _ (s : State) (m : Machine) (memory : List ℕ) (long : length s ≡ 16) (sized : Registers (m .regs)) (holds : HoldsBelow 16 s (m .regs)) (bytes : Bytes memory) where
   below : HoldsBelow 15 s (m .regs)
@@ -59,12 +59,12 @@ module _ (s : State) (m : Machine) (memory : List ℕ) (long : length s ≡ 16) 
   at r h = holds r h
 
   -- an instruction that writes x, of which v holds, into Rd
-  writes : (i : Instruction) (rd x : ℕ) (v : Value) (f : Flags) → rd < 15 → Holds v x → transferOf (pc m) i s ≡ set s rd v
+  writes : (i : Instruction) (rd x : ℕ) (v : Value) (f : Flags) → rd < 15 → Holds v x → transferOf (record { 0 = pc m }) i s ≡ set s rd v
       → Completes s i m (completed (machine (written (m .regs) rd x) f) memory)
   writes i rd x v f hd hv e = record { outcome = refl; moved = inl (rw e (wrote s (m .regs) rd x v hd long sized below hv)) }
 
   -- one that writes no register
-  passes : (i : Instruction) (f : Flags) (after : List ℕ) → transferOf (pc m) i s ≡ s → Completes s i m (completed (machine (advanced (m .regs)) f) after)
+  passes : (i : Instruction) (f : Flags) (after : List ℕ) → transferOf (record { 0 = pc m }) i s ≡ s → Completes s i m (completed (machine (advanced (m .regs)) f) after)
   passes i f after e = record { outcome = refl; moved = inl (rw e (on s (m .regs) sized below)) }
 
   -- a load or store of a halfword is aligned
@@ -110,6 +110,6 @@ module _ (s : State) (m : Machine) (memory : List ℕ) (long : length s ≡ 16) 
       inr (rw (aligned-then (effectiveAddress m rb (4 * offset)) _ _ (a refl)) (writes (Ldr offset rb rd) rd _ _ _ (omega (arith, h .2)) (unknown-sound _ (halfword-small memory _ bytes)) refl))
   step-case (Strb offset rb rd) h k a = inr (passes (Strb offset rb rd) _ _ refl)
   step-case (Ldrb offset rb rd) h k a = inr (writes (Ldrb offset rb rd) rd _ _ _ (omega (arith, h .2)) (byte-sound _ (bytes .below _)) refl)
-  step-case (AddPc rd imm) h k a = inr (writes (AddPc rd imm) rd (pcSum (pc m) imm) _ _ (omega (arith, h .0)) (exactly-sound (pcSum (pc m) imm) (omega arith)) refl)
+  step-case (AddPc rd imm) h k a = inr (writes (AddPc rd imm) rd (pcSum (record { 0 = pc m }) imm) _ _ (omega (arith, h .0)) (exactly-sound (pcSum (record { 0 = pc m }) imm) (omega arith)) refl)
   step-case (Branch condition offset) h k a = inr (branch-case condition offset (conditionOf condition (flags m)))
   step-case Halt h k a = inl refl

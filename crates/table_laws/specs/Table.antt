@@ -62,5 +62,5 @@ pub record StarredRows : Type 0 where
   pub asr-by-0100 : (f : Flags) → Gives 0x4088 (machineWith 0x8000 0x0100 0 f) (machineWith 0x8000 0x0100 2 (nzcv true false (f .c) (f .v)))
   pub row-A001 : (f : Flags) → Gives 0xA001 (machineWith 0 0 6 f) (machineWith 8 0 8 f)
   pub p-256 : verifyOf (imageOf (codeP 0x21FC) 256 256) ≡ Fit (record { «code_bytes» = 14; «window_start» = 256; «window_length» = 256 })
-  pub p-252 : verifyOf (imageOf (codeP 0x21FC) 256 252) ≡ Refused (refusalAt 10 10)
-  pub p-21FD : verifyOf (imageOf (codeP 0x21FD) 256 256) ≡ Refused (refusalAt 11 10)
+  pub p-252 : verifyOf (imageOf (codeP 0x21FC) 256 252) ≡ Refused (refusalAt 10 (record { 0 = 10 }))
+  pub p-21FD : verifyOf (imageOf (codeP 0x21FD) 256 256) ≡ Refused (refusalAt 11 (record { 0 = 10 }))

@@ -30,5 +30,5 @@ abbrev pub branchTargetOf : ByteAddress → ℕ → ByteAddress
 branchTargetOf a offset = record { 0 = wrap (a .0 + branchDistance offset) }
 
 -- ADD Rd, PC gives the address with its two low bits cleared, plus four times the immediate
-abbrev pub pcSum : ℕ → ℕ → ℕ
-pcSum address imm = wrap (address / 4 * 4 + 4 * imm)
+abbrev pub pcSum : ByteAddress → ℕ → ℕ
+pcSum a imm = wrap (a .0 / 4 * 4 + 4 * imm)

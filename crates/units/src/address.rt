@@ -45,7 +45,7 @@ pub fn branch_target(a: ByteAddress, offset: u8) -> ByteAddress
 // What ADD Rd, PC at an address gives: the address with its two low bits
 // cleared, plus four times an immediate. Wraps.
 pub fn pc_sum(a: ByteAddress, imm: u8) -> u16
-    ensures { λ r. ⌜ r ≡ pcSum (a .0) imm ⌝ }
+    ensures { λ r. ⌜ r ≡ pcSum a imm ⌝ }
 {
     let aligned = a.0 / 4 * 4;
     std::num::wrapping_add_u16(aligned, 4 * (imm as u16))

@@ -12,7 +12,6 @@ use Rattle.image.specs.Code.{codePosition, codeAt, codeOf}
 use Rattle.image.specs.declared.checker.Checked.the-variants.{Valid}
 use Rattle.image.specs.declared.checker.Layout.{Layout}
 use Rattle.image.proofs.Valid.{valid-code-bytes, valid-size, code-in-file, code-halfword}
-use Rattle.verifier.specs.Verify.{layoutWith}
 
 module _ (file : List ℕ) (layout : Layout) (ok : checkOf file ≡ Valid layout) where
   -- so many turns it takes
@@ -30,10 +29,3 @@ module _ (file : List ℕ) (layout : Layout) (ok : checkOf file ≡ Valid layout
     pub halfword-is : (h : ℕ) → h ≡ halfwordAt file p → h ≡ getD (codeOf file) n 0
     unfolding codeAt
     halfword-is h e = e ∙ ap (halfwordAt file) at ∙ sym (code-halfword file n inside)
-
-  -- the layout that the check gives is that of the code
-  pub layout-is : layout ≡ layoutWith (codeOf file) (layout .«window_start») (layout .«window_length»)
-  layout-is = ap again (valid-code-bytes file layout ok)
-    where
-      again : ℕ → Layout
-      again n = record { «code_bytes» = n; «window_start» = layout .«window_start»; «window_length» = layout .«window_length» }

@@ -34,8 +34,8 @@ module _ (s : State) (layout : Layout) (a : ByteAddress) (isLast : Bool) (h : �
   unfolding firstNo
   told Undefined = refl
   told (Defined i) =
-      first-answer a (check10 (value s (accessOf i .base)) (layout .«window_start») (layout .«window_length») (accessOf i))
-      (check11 (value s (accessOf i .base)) (accessOf i)) (check12 i) (check13 (layout .«code_bytes») a i) (check14 isLast h)
+      first-answer a (check10 (value s (accessOf i .base)) layout (accessOf i))
+      (check11 (value s (accessOf i .base)) (accessOf i)) (check12 i) (check13 layout a i) (check14 isLast h)
 
   -- a number that is not 0 is the answer
   pub told-first : (d : Decoded) (n : ℕ) → n ≡ numberOf s layout a d → (n ≡ 0 → ⊥) → answerAt a n ≡ firstNo (halfwordChecks s layout a isLast h d)

@@ -18,7 +18,7 @@ firstOf t10 t11 t12 t13 = cond t10 (cond t11 (cond t12 (cond t13 0 13) 12) 11) 1
 abbrev pub numberOf : State → Layout → ByteAddress → Decoded → ℕ
 numberOf s layout a Undefined = 9
 numberOf s layout a (Defined i) =
-    firstOf (check10 (value s (accessOf i .base)) (layout .«window_start») (layout .«window_length») (accessOf i))
+    firstOf (check10 (value s (accessOf i .base)) layout (accessOf i))
     (check11 (value s (accessOf i .base)) (accessOf i))
     (check12 i)
-    (check13 (layout .«code_bytes») a i)
+    (check13 layout a i)

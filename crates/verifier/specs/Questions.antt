@@ -1,5 +1,5 @@
--- Checks 9 to 14 of an instruction ("The questions"). `base` is the abstract value of its base register before it, w and l are the window's start
--- and length, c is the code's length in bytes.
+-- Checks 9 to 14 of an instruction ("The questions"). `base` is the abstract value of its base register before it; the layout has c, the code's
+-- length in bytes, and w and l, the window's start and length.
 use mathlib.Core.Bool.{Bool, true, false, cond, not, _&&_}
 use mathlib.Core.List.{List, [], _∷_}
 use Prim.Native.Nat.{ℕ, zero, suc, _+_}
@@ -27,10 +27,11 @@ check9 Undefined = false
 
 -- 10: the data of a load or store is in the window, whatever number its base register is. The sums are of unbounded numbers: an address that
 -- would wrap is past the window
-abbrev pub check10 : Value → ℕ → ℕ → Access → Bool
-check10 base w l access =
+abbrev pub check10 : Value → Layout → Access → Bool
+check10 base layout access =
     cond (eqb (access .size) 0) true
-    (leb w (base .low + access .offset) && leb (base .high + access .offset + access .size) (w + l))
+    (leb (layout .«window_start») (base .low + access .offset)
+    && leb (base .high + access .offset + access .size) (layout .«window_start» + layout .«window_length»))
 
 -- 11: the base of a load or store of a halfword is known to be a multiple of 4. (Its offset always is.)
 abbrev pub check11 : Value → Access → Bool
@@ -58,13 +59,13 @@ check12 (Branch condition offset) = true
 check12 Halt = true
 
 -- the address that a jump goes to is below c
-abbrev pub staysBelow : ℕ → Target → Bool
-staysBelow c (To a) = ltb (a .0) c
-staysBelow c Nowhere = true
+abbrev pub staysInCode : Layout → Target → Bool
+staysInCode layout (To a) = ltb (a .0) (layout .«code_bytes»)
+staysInCode layout Nowhere = true
 
 -- 13: a branch goes to an address of the code. One that leads below address 0 comes round to a high address, which is never below c
-abbrev pub check13 : ℕ → ByteAddress → Instruction → Bool
-check13 c a i = staysBelow c (jumpOf a i)
+abbrev pub check13 : Layout → ByteAddress → Instruction → Bool
+check13 layout a i = staysInCode layout (jumpOf a i)
 
 -- 14: the last halfword h of the code is HALT, which is 0 ("Encodings")
 abbrev pub check14 : Bool → ℕ → Bool
@@ -72,15 +73,15 @@ check14 isLast h = cond isLast (eqb h 0) true
 
 -- a check of the instruction at an address
 abbrev pub atAddress : ByteAddress → ℕ → Bool → Asked
-atAddress a number test = record { passed = test; otherwise = refusalAt number (a .0) }
+atAddress a number test = record { passed = test; otherwise = refusalAt number a }
 
 -- what is put to an instruction, in order
 abbrev pub definedChecks : Value → Layout → ByteAddress → Bool → ℕ → Instruction → List Asked
 definedChecks base layout a isLast h i =
-    atAddress a 10 (check10 base (layout .«window_start») (layout .«window_length») (accessOf i))
+    atAddress a 10 (check10 base layout (accessOf i))
     ∷ atAddress a 11 (check11 base (accessOf i))
     ∷ atAddress a 12 (check12 i)
-    ∷ atAddress a 13 (check13 (layout .«code_bytes») a i)
+    ∷ atAddress a 13 (check13 layout a i)
     ∷ atAddress a 14 (check14 isLast h)
     ∷ []
 
@@ -93,4 +94,4 @@ halfwordChecks s layout a isLast h (Defined i) =
 -- what a number says of the checks of the instruction at an address: 0 that all have passed, else which is the first that has not
 abbrev pub answerAt : ByteAddress → ℕ → Answer
 answerAt a zero = Pass
-answerAt a (suc n) = Refused (refusalAt (suc n) (a .0))
+answerAt a (suc n) = Refused (refusalAt (suc n) a)

@@ -3,6 +3,7 @@ use mathlib.Core.List.{List}
 use Prim.Native.Nat.{ℕ}
 use lib.ListN.{getD, set, replicate}
 use Rattle.units.specs.Address.{pcSum}
+use Rattle.units.specs.declared.address.ByteAddress.{ByteAddress}
 use Rattle.isa.specs.declared.decoder.Decoded.{Decoded}
 use Rattle.isa.specs.declared.decoder.Decoded.the-variants.{Defined, Undefined}
 use Rattle.isa.specs.declared.instruction.Instruction.{Instruction}
@@ -26,35 +27,35 @@ abbrev pub unknownState : State
 unknownState = replicate registerCount unknownOf
 
 -- an instruction reads R15 as its own address
-abbrev pub standingAt : ℕ → State → State
-standingAt address s = set s pcRegister (exactlyOf address)
+abbrev pub standingAt : ByteAddress → State → State
+standingAt a s = set s pcRegister (exactlyOf (a .0))
 
 -- the value of a register
 abbrev pub value : State → ℕ → Value
 value s r = getD s r unknownOf
 
--- the state after an instruction, from that before it: comparisons, stores, branches and HALT change no register's value
-abbrev pub transferOf : ℕ → Instruction → State → State
-transferOf address (MovImm rd imm) s = set s rd (exactlyOf imm)
-transferOf address (CmpImm rd imm) s = s
-transferOf address (And rs rd) s = set s rd (andOf (value s rd) (value s rs))
-transferOf address (Eor rs rd) s = set s rd (eorOf (value s rd) (value s rs))
-transferOf address (Asr rs rd) s = set s rd (asrOf (value s rd))
-transferOf address (Tst rs rd) s = s
-transferOf address (Neg rs rd) s = set s rd (negOf (value s rs))
-transferOf address (Cmp rs rd) s = s
-transferOf address (AddHigh rs rd) s = set s rd (addOf (value s rd) (value s rs))
-transferOf address (CmpHigh rs rd) s = s
-transferOf address (MovHigh rs rd) s = set s rd (value s rs)
-transferOf address (Str offset rb rd) s = s
-transferOf address (Ldr offset rb rd) s = set s rd unknownOf
-transferOf address (Strb offset rb rd) s = s
-transferOf address (Ldrb offset rb rd) s = set s rd byteOf
-transferOf address (AddPc rd imm) s = set s rd (exactlyOf (pcSum address imm))
-transferOf address (Branch condition offset) s = s
-transferOf address Halt s = s
+-- the state after the instruction at an address, from that before it: comparisons, stores, branches and HALT change no register's value
+abbrev pub transferOf : ByteAddress → Instruction → State → State
+transferOf a (MovImm rd imm) s = set s rd (exactlyOf imm)
+transferOf a (CmpImm rd imm) s = s
+transferOf a (And rs rd) s = set s rd (andOf (value s rd) (value s rs))
+transferOf a (Eor rs rd) s = set s rd (eorOf (value s rd) (value s rs))
+transferOf a (Asr rs rd) s = set s rd (asrOf (value s rd))
+transferOf a (Tst rs rd) s = s
+transferOf a (Neg rs rd) s = set s rd (negOf (value s rs))
+transferOf a (Cmp rs rd) s = s
+transferOf a (AddHigh rs rd) s = set s rd (addOf (value s rd) (value s rs))
+transferOf a (CmpHigh rs rd) s = s
+transferOf a (MovHigh rs rd) s = set s rd (value s rs)
+transferOf a (Str offset rb rd) s = s
+transferOf a (Ldr offset rb rd) s = set s rd unknownOf
+transferOf a (Strb offset rb rd) s = s
+transferOf a (Ldrb offset rb rd) s = set s rd byteOf
+transferOf a (AddPc rd imm) s = set s rd (exactlyOf (pcSum a imm))
+transferOf a (Branch condition offset) s = s
+transferOf a Halt s = s
 
 -- an undefined halfword changes nothing: the code is refused there
-abbrev pub afterOf : ℕ → Decoded → State → State
-afterOf address (Defined i) s = transferOf address i s
-afterOf address Undefined s = s
+abbrev pub afterOf : ByteAddress → Decoded → State → State
+afterOf a (Defined i) s = transferOf a i s
+afterOf a Undefined s = s

@@ -35,7 +35,7 @@ pub(crate) fn check_last(is_last: bool, h: u16) -> u8
 // the window.
 fn check_access(base: Value, layout: Layout, offset: u16, size: u8) -> u8
     requires { ⌜ 0 < size ⌝ }
-    ensures { λ r. ⌜ r ≡ cond (check10 base (layout .«window_start») (layout .«window_length») (record { base = 0; offset = offset; size = size })) (cond (check11 base (record { base = 0; offset = offset; size = size })) 0 11) 10 ⌝ }
+    ensures { λ r. ⌜ r ≡ cond (check10 base layout (record { base = 0; offset = offset; size = size })) (cond (check11 base (record { base = 0; offset = offset; size = size })) 0 11) 10 ⌝ }
 {
     let start = layout.window_start as u32;
     let end = start + layout.window_length as u32;

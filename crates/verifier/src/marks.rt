@@ -68,13 +68,13 @@ pub(crate) fn mark_targets(file: &[u8], layout: Layout) -> [u64; 249]
 {
     let count = units::instruction_index(ByteAddress(layout.code_bytes));
     let mut marks = [0u64; 249];
-    let mut number = 0;
+    let mut i = InstructionIndex(0);
     let mut position = FIRST_POSITION;
-    while number < count.0 {
+    while i.0 < count.0 {
         let h = halfword_at(file, position);
-        mark_target(&mut marks, InstructionIndex(number), h);
+        mark_target(&mut marks, i, h);
         position = position_after(position);
-        number += 1;
+        i = InstructionIndex(i.0 + 1);
     }
     marks
 }

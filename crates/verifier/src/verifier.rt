@@ -29,7 +29,7 @@ pub enum Verdict {
 
 // The refusal of the instruction at an address.
 fn refused(number: u8, a: ByteAddress) -> Verdict
-    ensures { λ r. ⌜ r ≡ Verdict.Refused (refusalAt number (a .0)) ⌝ }
+    ensures { λ r. ⌜ r ≡ Verdict.Refused (refusalAt number a) ⌝ }
 {
     Verdict::Refused(Refusal {
         number,
@@ -38,32 +38,31 @@ fn refused(number: u8, a: ByteAddress) -> Verdict
 }
 
 // Checks 9 to 14 of the code of an accepted file, lowest address first. `state`
-// holds the values of R0 to R15 before instruction `number`: unknown at address 0
+// holds the values of R0 to R15 before instruction `i`: unknown at address 0
 // and at branch targets, but for R15, which is the instruction's own address.
 fn walk(file: &[u8], layout: Layout) -> Verdict
     requires { ⌜ checkOf (now file) ≡ Checked.Valid layout ⌝ }
-    ensures { λ r. ⌜ r ≡ verifyCode (codeOf (now (file .entry))) (layout .«window_start») (layout .«window_length») ⌝ }
+    ensures { λ r. ⌜ r ≡ verifyCode (codeOf (now (file .entry))) layout ⌝ }
 {
     let count = units::instruction_index(ByteAddress(layout.code_bytes));
     let marks = mark_targets(file, layout);
     let unknown = word_of(domain::unknown());
     let mut state = [unknown; REGISTERS];
-    let mut number = 0;
+    let mut i = InstructionIndex(0);
     let mut position = FIRST_POSITION;
-    while number < count.0 {
-        let i = InstructionIndex(number);
+    while i.0 < count.0 {
         let a = units::byte_address(i);
         if is_marked(&marks, i) {
             state = [unknown; REGISTERS];
         }
         set_value(&mut state, PC, domain::exactly(a.0));
         let h = halfword_at(file, position);
-        let no = first_no(&mut state, layout, a, number + 1 == count.0, h);
+        let no = first_no(&mut state, layout, a, i.0 + 1 == count.0, h);
         if no != 0 {
             return refused(no, a);
         }
         position = position_after(position);
-        number += 1;
+        i = InstructionIndex(i.0 + 1);
     }
     Verdict::Fit(layout)
 }

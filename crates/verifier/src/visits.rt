@@ -12,7 +12,6 @@ use domain::Value;
 use image::Layout;
 use units::ByteAddress;
 ghost use mathlib.Core.Path.{_≡_};
-ghost use Prim.Native.Nat.{ℕ};
 ghost use lib.ListN.{length, set};
 ghost use Rattle.units.specs.Address.{pcSum};
 ghost use Rattle.units.specs.Field.{field};
@@ -43,7 +42,7 @@ fn move_imm(state: &mut [u64; 16], h: u16)
 
 fn visit_alu(state: &mut [u64; 16], h: u16) -> u8
     requires { ⌜ length (now state) ≡ registerCount ⌝ }
-    ensures { λ r. ⌜ ((s : State) (layout : Layout) (a : ByteAddress) → r ≡ numberOf s layout a (aluOf h)) × ((n : ℕ) → stateOf (now (state .exit)) ≡ afterOf n (aluOf h) (stateOf (now (state .entry)))) ⌝ }
+    ensures { λ r. ⌜ ((s : State) (layout : Layout) (a : ByteAddress) → r ≡ numberOf s layout a (aluOf h)) × ((a : ByteAddress) → stateOf (now (state .exit)) ≡ afterOf a (aluOf h) (stateOf (now (state .entry)))) ⌝ }
 {
     let rd = units::bits(h, 0, 3);
     let d = value_at(state, rd);
@@ -73,7 +72,7 @@ fn visit_alu(state: &mut [u64; 16], h: u16) -> u8
 
 fn visit_high(state: &mut [u64; 16], h: u16) -> u8
     requires { ⌜ length (now state) ≡ registerCount ⌝ }
-    ensures { λ r. ⌜ ((s : State) (layout : Layout) (a : ByteAddress) → r ≡ numberOf s layout a (highOf h)) × ((n : ℕ) → stateOf (now (state .exit)) ≡ afterOf n (highOf h) (stateOf (now (state .entry)))) ⌝ }
+    ensures { λ r. ⌜ ((s : State) (layout : Layout) (a : ByteAddress) → r ≡ numberOf s layout a (highOf h)) × ((a : ByteAddress) → stateOf (now (state .exit)) ≡ afterOf a (highOf h) (stateOf (now (state .entry)))) ⌝ }
 {
     let rd = units::high_rd(h);
     let s = value_at(state, units::high_rs(h));
@@ -101,7 +100,7 @@ fn visit_high(state: &mut [u64; 16], h: u16) -> u8
 // The two formats above, by the bit in which they differ.
 fn visit_registers(state: &mut [u64; 16], h: u16) -> u8
     requires { ⌜ (length (now state) ≡ registerCount) × (field h 11 2 ≡ 0) ⌝ }
-    ensures { λ r. ⌜ ((s : State) (layout : Layout) (a : ByteAddress) → r ≡ numberOf s layout a (registersOf h)) × ((n : ℕ) → stateOf (now (state .exit)) ≡ afterOf n (registersOf h) (stateOf (now (state .entry)))) ⌝ }
+    ensures { λ r. ⌜ ((s : State) (layout : Layout) (a : ByteAddress) → r ≡ numberOf s layout a (registersOf h)) × ((a : ByteAddress) → stateOf (now (state .exit)) ≡ afterOf a (registersOf h) (stateOf (now (state .entry)))) ⌝ }
 {
     if units::bits(h, 10, 1) == 0 {
         visit_alu(state, h)
@@ -119,7 +118,7 @@ fn load(state: &mut [u64; 16], h: u16, v: Value)
 
 // ADD Rd, PC at an address.
 fn add_pc(state: &mut [u64; 16], a: ByteAddress, h: u16)
-    ensures { λ _. ⌜ stateOf (now (state .exit)) ≡ set (stateOf (now (state .entry))) (field h 8 3) (exactlyOf (pcSum (a .0) (field h 0 8))) ⌝ }
+    ensures { λ _. ⌜ stateOf (now (state .exit)) ≡ set (stateOf (now (state .entry))) (field h 8 3) (exactlyOf (pcSum a (field h 0 8))) ⌝ }
 {
     let sum = units::pc_sum(a, units::bits(h, 0, 8));
     set_value(state, units::bits(h, 8, 3), domain::exactly(sum));
@@ -142,7 +141,7 @@ fn visit_branch(layout: Layout, a: ByteAddress, h: u16) -> u8
 // five bits tell its format; of a branch they tell the half of the conditions.
 fn visit(state: &mut [u64; 16], layout: Layout, a: ByteAddress, h: u16) -> u8
     requires { ⌜ length (now state) ≡ registerCount ⌝ }
-    ensures { λ r. ⌜ (r ≡ numberOf (stateOf (now (state .entry))) layout a (decodeOf h)) × (stateOf (now (state .exit)) ≡ afterOf (a .0) (decodeOf h) (stateOf (now (state .entry)))) ⌝ }
+    ensures { λ r. ⌜ (r ≡ numberOf (stateOf (now (state .entry))) layout a (decodeOf h)) × (stateOf (now (state .exit)) ≡ afterOf a (decodeOf h) (stateOf (now (state .entry)))) ⌝ }
 {
     match units::bits(h, 11, 5) {
         0 => visit_halt(h),
@@ -184,7 +183,7 @@ pub(crate) fn first_no(
     h: u16,
 ) -> u8
     requires { ⌜ length (now state) ≡ registerCount ⌝ }
-    ensures { λ r. ⌜ (answerAt a r ≡ firstNo (halfwordChecks (stateOf (now (state .entry))) layout a «is_last» h (decodeOf h))) × (stateOf (now (state .exit)) ≡ afterOf (a .0) (decodeOf h) (stateOf (now (state .entry)))) ⌝ }
+    ensures { λ r. ⌜ (answerAt a r ≡ firstNo (halfwordChecks (stateOf (now (state .entry))) layout a «is_last» h (decodeOf h))) × (stateOf (now (state .exit)) ≡ afterOf a (decodeOf h) (stateOf (now (state .entry)))) ⌝ }
 {
     let no = visit(state, layout, a, h);
     if no != 0 {

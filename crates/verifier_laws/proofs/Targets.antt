@@ -1,32 +1,19 @@
 -- Branch targets, and the state along the code.
-use mathlib.Core.Bool.{Bool, true, false, cond, _||_}
+use mathlib.Core.Bool.{Bool, true, false, cond, _||_, or-true}
 use mathlib.Core.List.{List}
-use mathlib.Core.Path.{_≡_, refl, sym, ap, subst, _∙_}
+use mathlib.Core.Path.{_≡_, refl, ap, _∙_}
 use Prim.Native.Nat.{ℕ, zero, suc, _<_}
 use native.Mathlib.Decide.{ℕ-discrete}
 use native.Mathlib.Omega.{arith}
-use borrow.Author.Tests.{eq-eqb}
 use lib.ListN.{length}
-use Rattle.units.specs.Address.{instructionIndexOf}
-use Rattle.units.specs.declared.address.ByteAddress.{ByteAddress}
 use Rattle.isa.specs.declared.decoder.Decoded.{Decoded}
 use Rattle.isa.specs.declared.decoder.Decoded.the-variants.{Defined}
 use Rattle.isa.specs.declared.instruction.Instruction.{Instruction}
-use Rattle.verifier.specs.Access.{jumpOf}
 use Rattle.verifier.specs.State.{unknownState, standingAt, transferOf, afterOf}
-use Rattle.verifier.specs.Targets.{addressOf, decodedAt, jumpAt, landsOn, goesTo, targetedBelow, targeted, markedAt}
+use Rattle.verifier.specs.Targets.{addressOf, decodedAt, goesTo, targetedBelow, targeted}
 use Rattle.verifier.specs.Verify.{entering, valuesAt}
-use Rattle.verifier.specs.declared.branch.Target.{Target}
-use Rattle.verifier.specs.declared.branch.Target.the-variants.{To}
 use Rattle.verifier_laws.specs.Passes.{Reached}
-
-or-left : (a b : Bool) → a ≡ true → (a || b) ≡ true
-or-left true b e = refl
-or-left false b e = ap (λ (t : Bool). t || b) e
-
-or-right : (a b : Bool) → b ≡ true → (a || b) ≡ true
-or-right true b e = refl
-or-right false b e = e
+use Rattle.verifier_laws.specs.Claims.{TargetsExactly, ForgetsAtTargets}
 
 module _ (code : List ℕ) (j : ℕ) where
   reached-below : (n k : ℕ) → k < n → goesTo code k j ≡ true → targetedBelow code n j ≡ true
@@ -35,8 +22,8 @@ module _ (code : List ℕ) (j : ℕ) where
   reached-below (suc n) k h e = go (ℕ-discrete k n) (λ b. reached-below n k b e)
     where
       go : Dec (k ≡ n) → (k < n → targetedBelow code n j ≡ true) → (goesTo code n j || targetedBelow code n j) ≡ true
-      go (yes q) rest = or-left (goesTo code n j) (targetedBelow code n j) (subst (λ (m : ℕ). goesTo code m j ≡ true) q e)
-      go (no q) rest = or-right (goesTo code n j) (targetedBelow code n j) (rest (omega arith))
+      go (yes q) rest = rw (← q, e) refl
+      go (no q) rest = rw (rest (omega arith)) (or-true (goesTo code n j))
 
   below-reached : (n : ℕ) → targetedBelow code n j ≡ true → (k : ℕ) × (k < n) × (goesTo code k j ≡ true)
   unfolding targetedBelow
@@ -53,48 +40,46 @@ module _ (code : List ℕ) (j : ℕ) where
   unfolding targeted
   reached-targeted r = reached-below (length code) (r .branch) (r .inside) (r .there)
 
-  pub targeted-reached : targeted code j ≡ true → Reached code j
+  targeted-reached : targeted code j ≡ true → Reached code j
   unfolding targeted
   targeted-reached e =
       let r = below-reached (length code) e in
       record { branch = r .0; inside = r .1; there = r .2 }
 
-  -- so marks that agree with the targets, as those of the first pass do, are set exactly there
-  pub marked-reached : (marks : List ℕ) → markedAt marks j ≡ targeted code j → markedAt marks j ≡ true → Reached code j
-  marked-reached marks e m = targeted-reached (sym e ∙ m)
-
-  pub reached-marked : (marks : List ℕ) → markedAt marks j ≡ targeted code j → Reached code j → markedAt marks j ≡ true
-  reached-marked marks e r = e ∙ reached-targeted r
-
 module _ (code : List ℕ) where
-  -- a branch of the code makes its place a target
-  pub branch-targeted : (k : ℕ) (i : Instruction) (a : ByteAddress) → k < length code → decodedAt code k ≡ Defined i
-      → jumpOf (addressOf k) i ≡ To a → targeted code (instructionIndexOf a .0) ≡ true
-  unfolding goesTo
-  branch-targeted k i a h e q =
-      reached-targeted code (instructionIndexOf a .0) (record {
-        branch = k;
-        inside = h;
-        there = ap (λ (t : Target). landsOn t (instructionIndexOf a .0)) (ap (jumpAt (addressOf k)) e ∙ q) ∙ eq-eqb (instructionIndexOf a .0) (instructionIndexOf a .0) refl;
-      })
-
   -- at a target nothing is known but the address
-  pub target-values : (j : ℕ) → targeted code j ≡ true → valuesAt code j ≡ standingAt (addressOf j .0) unknownState
-  target-values j e = ap (λ (t : Bool). standingAt (addressOf j .0) (cond t unknownState (entering code j))) e
+  target-values : (j : ℕ) → targeted code j ≡ true → valuesAt code j ≡ standingAt (addressOf j) unknownState
+  target-values j e = ap (λ (t : Bool). standingAt (addressOf j) (cond t unknownState (entering code j))) e
 
   -- elsewhere the state is what the instruction above left
-  pub next-values : (i : ℕ) (instruction : Instruction) → decodedAt code i ≡ Defined instruction → targeted code (suc i) ≡ false
-      → valuesAt code (suc i) ≡ standingAt (addressOf (suc i) .0) (transferOf (addressOf i .0) instruction (valuesAt code i))
+  next-values : (i : ℕ) (instruction : Instruction) → decodedAt code i ≡ Defined instruction → targeted code (suc i) ≡ false
+      → valuesAt code (suc i) ≡ standingAt (addressOf (suc i)) (transferOf (addressOf i) instruction (valuesAt code i))
   unfolding entering
   next-values i instruction e q =
-      ap (λ (t : Bool). standingAt (addressOf (suc i) .0) (cond t unknownState (entering code (suc i)))) q
-      ∙ ap (λ (d : Decoded). standingAt (addressOf (suc i) .0) (afterOf (addressOf i .0) d (valuesAt code i))) e
+      ap (λ (t : Bool). standingAt (addressOf (suc i)) (cond t unknownState (entering code (suc i)))) q
+      ∙ ap (λ (d : Decoded). standingAt (addressOf (suc i)) (afterOf (addressOf i) d (valuesAt code i))) e
 
   -- at address 0 nothing is known either
-  pub first-values : valuesAt code 0 ≡ standingAt (addressOf 0 .0) unknownState
+  first-values : valuesAt code 0 ≡ standingAt (addressOf 0) unknownState
   unfolding entering
   first-values = go (targeted code 0)
     where
-      go : (t : Bool) → standingAt (addressOf 0 .0) (cond t unknownState unknownState) ≡ standingAt (addressOf 0 .0) unknownState
+      go : (t : Bool) → standingAt (addressOf 0) (cond t unknownState unknownState) ≡ standingAt (addressOf 0) unknownState
       go true = refl
       go false = refl
+
+  -- where no branch goes
+  not-reached : (i : ℕ) (instruction : Instruction) → decodedAt code i ≡ Defined instruction → (Reached code (suc i) → ⊥)
+      → valuesAt code (suc i) ≡ standingAt (addressOf (suc i)) (transferOf (addressOf i) instruction (valuesAt code i))
+  not-reached i instruction e none = go (targeted code (suc i)) refl
+    where
+      go : (t : Bool) → targeted code (suc i) ≡ t → valuesAt code (suc i) ≡ standingAt (addressOf (suc i)) (transferOf (addressOf i) instruction (valuesAt code i))
+      go true q = absurd (none (targeted-reached code (suc i) q))
+      go false q = next-values i instruction e q
+
+pub targets-exactly : TargetsExactly
+targets-exactly code j = (targeted-reached code j, reached-targeted code j)
+
+pub forgets-at-targets : ForgetsAtTargets
+forgets-at-targets code =
+    record { first = first-values code; target = λ j r. target-values code j (reached-targeted code j r); next = not-reached code }

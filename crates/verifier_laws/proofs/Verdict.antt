@@ -1,5 +1,6 @@
--- A file is fit exactly when every check gets a yes.
+-- A file is fit exactly when every check gets a yes, and refused by the first no.
 use mathlib.Core.List.{List}
+use mathlib.Core.Logic.{_⊎_, inl, inr}
 use mathlib.Core.Path.{_≡_, refl, sym, ap, _∙_}
 use Prim.Native.Nat.{ℕ, zero, suc, _<_}
 use native.Mathlib.Decide.{ℕ-discrete}
@@ -7,6 +8,7 @@ use native.Mathlib.Nat.{le-refl}
 use native.Mathlib.Omega.{arith}
 use lib.Dec.{eqb}
 use lib.ListN.{length, getD}
+use Rattle.refusals.specs.declared.refusal.Refusal.{Refusal}
 use Rattle.isa.specs.declared.decoder.Decoded.{Decoded}
 use Rattle.isa.specs.declared.decoder.Decoded.the-variants.{Defined, Undefined}
 use Rattle.image.specs.Check.{firstNo, checkOf}
@@ -19,18 +21,18 @@ use Rattle.image.specs.declared.checker.Layout.{Layout}
 use Rattle.image.proofs.Answers.{head-passed, tail-passed, left-passed, right-passed}
 use Rattle.verifier.specs.Targets.{addressOf, decodedAt}
 use Rattle.verifier.specs.Questions.{halfwordChecks}
-use Rattle.verifier.specs.Verify.{valuesAt, layoutWith, checksAt, codeChecks, verdictBelow, verdictAs, verifyCode, verifyChecked, verifyOf}
+use Rattle.verifier.specs.Verify.{valuesAt, checksAt, codeChecks, verdictBelow, verdictAs, verifyCode, verifyChecked, verifyOf}
 use Rattle.verifier.specs.declared.verifier.Verdict.the-variants.{Fit, Refused}
-use Rattle.verifier.proofs.Accepted.{layout-is}
-use Rattle.verifier.proofs.Walk.{next}
+use Rattle.verifier.proofs.Walk.{next, stands, refusal, fit}
 use Rattle.verifier_laws.specs.Passes.{Passes}
+use Rattle.verifier_laws.specs.Claims.{PassesExactly, RefusedInCode, RefusesExactly}
 
-module _ (code : List ℕ) (w l : ℕ) where
+module _ (code : List ℕ) (layout : Layout) where
   -- ---- one instruction
 
   passes : (i : ℕ) (d : Decoded) → decodedAt code i ≡ d
-      → firstNo (halfwordChecks (valuesAt code i) (layoutWith code w l) (addressOf i) (eqb (suc i) (length code)) (getD code i 0) d) ≡ answer.Pass
-      → Passes code w l i
+      → firstNo (halfwordChecks (valuesAt code i) layout (addressOf i) (eqb (suc i) (length code)) (getD code i 0) d) ≡ answer.Pass
+      → Passes code layout i
   passes i (Defined instruction) q e₉ =
       let e₁₀ = tail-passed _ _ e₉ in
       let e₁₁ = tail-passed _ _ e₁₀ in
@@ -48,76 +50,104 @@ module _ (code : List ℕ) (w l : ℕ) where
       }
   passes i Undefined q e = let p = head-passed _ _ e in let z : _≡_ {A = ℕ} 0 1 = cc in absurd (omega arith)
 
-  checks-pass : (i : ℕ) → Passes code w l i → firstNo (checksAt code w l i) ≡ answer.Pass
+  checks-pass : (i : ℕ) → Passes code layout i → firstNo (checksAt code layout i) ≡ answer.Pass
   unfolding firstNo
   checks-pass i p = rw (p .passes9, p .passes10, p .passes11, p .passes12, p .passes13, p .passes14) refl
 
   -- ---- the code
 
-  below-passes : (n i : ℕ) → verdictBelow code w l n ≡ answer.Pass → i < n → Passes code w l i
+  below-passes : (n i : ℕ) → verdictBelow code layout n ≡ answer.Pass → i < n → Passes code layout i
   unfolding verdictBelow codeChecks
   below-passes zero i e h = absurd (omega arith)
-  below-passes (suc n) i e h = go (ℕ-discrete i n) (λ b. below-passes n i (left-passed (codeChecks code w l n) (checksAt code w l n) e) b)
+  below-passes (suc n) i e h = go (ℕ-discrete i n) (λ b. below-passes n i (left-passed (codeChecks code layout n) (checksAt code layout n) e) b)
     where
-      go : Dec (i ≡ n) → (i < n → Passes code w l i) → Passes code w l i
-      go (yes q) rest = rw q (passes n (decodedAt code n) refl (right-passed (codeChecks code w l n) (checksAt code w l n) e))
+      go : Dec (i ≡ n) → (i < n → Passes code layout i) → Passes code layout i
+      go (yes q) rest = rw q (passes n (decodedAt code n) refl (right-passed (codeChecks code layout n) (checksAt code layout n) e))
       go (no q) rest = rest (omega arith)
 
-  below-pass : (n : ℕ) → ((i : ℕ) → i < n → Passes code w l i) → verdictBelow code w l n ≡ answer.Pass
+  below-pass : (n : ℕ) → ((i : ℕ) → i < n → Passes code layout i) → verdictBelow code layout n ≡ answer.Pass
   unfolding verdictBelow codeChecks firstNo
   below-pass zero all = refl
   below-pass (suc n) all =
-      next code w l n (below-pass n (λ i h. all i (omega arith))) ∙ checks-pass n (all n (le-refl (suc n)))
+      next code layout n (below-pass n (λ i h. all i (omega arith))) ∙ checks-pass n (all n (le-refl (suc n)))
 
-  fit-answer : (layout said : Layout) (a : Answer) → verdictAs said a ≡ Fit layout → (a ≡ answer.Pass) × (layout ≡ said)
-  fit-answer layout said answer.Pass e = (refl, cc)
-  fit-answer layout said (answer.Refused r) e = let z : _≡_ {A = ℕ} 0 1 = cc in absurd (omega arith)
+  -- the first instruction of those that does not pass, where one does not
+  first-no : (n : ℕ) (r : Refusal) → verdictBelow code layout n ≡ answer.Refused r
+      → (i : ℕ) × (i < n) × ((k : ℕ) → k < i → Passes code layout k) × (firstNo (checksAt code layout i) ≡ answer.Refused r)
+  unfolding verdictBelow codeChecks firstNo
+  first-no zero r e = let z : _≡_ {A = ℕ} 0 1 = cc in absurd (omega arith)
+  first-no (suc n) r e = go (verdictBelow code layout n) refl (first-no n r)
+    where
+      go : (a : Answer) → verdictBelow code layout n ≡ a
+          → (verdictBelow code layout n ≡ answer.Refused r → (i : ℕ) × (i < n) × ((k : ℕ) → k < i → Passes code layout k) × (firstNo (checksAt code layout i) ≡ answer.Refused r))
+          → (i : ℕ) × (i < suc n) × ((k : ℕ) → k < i → Passes code layout k) × (firstNo (checksAt code layout i) ≡ answer.Refused r)
+      go answer.Pass q rest = (n, omega arith, λ k h. below-passes n k q h, sym (next code layout n q) ∙ e)
+      go (answer.Refused s) q rest =
+          let t = rest (q ∙ sym (stands code layout n (suc n) s (omega arith) q) ∙ e) in
+          (t .0, omega (arith, t .1), t .2, t .3)
 
-  -- a code that passes has the layout that it says, and each of its instructions passes
-  pub code-layout : (layout : Layout) → verifyCode code w l ≡ Fit layout → layout ≡ layoutWith code w l
+  -- ---- the verdict on the code
+
+  fit-answer : (said : Layout) (a : Answer) → verdictAs layout a ≡ Fit said → (a ≡ answer.Pass) × (layout ≡ said)
+  fit-answer said answer.Pass e = (refl, cc)
+  fit-answer said (answer.Refused r) e = let z : _≡_ {A = ℕ} 0 1 = cc in absurd (omega arith)
+
+  refused-answer : (r : Refusal) (a : Answer) → verdictAs layout a ≡ Refused r → a ≡ answer.Refused r
+  refused-answer r answer.Pass e = let z : _≡_ {A = ℕ} 0 1 = cc in absurd (omega arith)
+  refused-answer r (answer.Refused s) e = cc
+
+  code-fit : (said : Layout) → verifyCode code layout ≡ Fit said → (verdictBelow code layout (length code) ≡ answer.Pass) × (layout ≡ said)
   unfolding verifyCode
-  code-layout layout e = fit-answer layout (layoutWith code w l) (verdictBelow code w l (length code)) e .1
+  code-fit said e = fit-answer said (verdictBelow code layout (length code)) e
 
-  pub code-passes : (layout : Layout) → verifyCode code w l ≡ Fit layout → (i : ℕ) → i < length code → Passes code w l i
+  code-refused : (r : Refusal) → verifyCode code layout ≡ Refused r → verdictBelow code layout (length code) ≡ answer.Refused r
   unfolding verifyCode
-  code-passes layout e i h =
-      below-passes (length code) i (fit-answer layout (layoutWith code w l) (verdictBelow code w l (length code)) e .0) h
-
-  -- and a code each of whose instructions passes, passes
-  pub passes-code : ((i : ℕ) → i < length code → Passes code w l i) → verifyCode code w l ≡ Fit (layoutWith code w l)
-  unfolding verifyCode
-  passes-code all = ap (verdictAs (layoutWith code w l)) (below-pass (length code) all)
+  code-refused r e = refused-answer r (verdictBelow code layout (length code)) e
 
 -- ---- the file
 
-checked-code : (file : List ℕ) (layout : Layout) (d : Checked) → verifyChecked file d ≡ Fit layout
-    → (said : Layout) × (d ≡ checked.Valid said) × (verifyCode (codeOf file) (said .«window_start») (said .«window_length») ≡ Fit layout)
-checked-code file layout (checked.Valid said) e = (said, refl, e)
-checked-code file layout (checked.Refused r) e = let z : _≡_ {A = ℕ} 0 1 = cc in absurd (omega arith)
+module _ (file : List ℕ) where
+  checked-fit : (layout : Layout) (d : Checked) → verifyChecked file d ≡ Fit layout → (d ≡ checked.Valid layout) × (verifyCode (codeOf file) layout ≡ Fit layout)
+  checked-fit layout (checked.Valid said) e =
+      let q : said ≡ layout = code-fit (codeOf file) said layout e .1 in
+      (ap checked.Valid q, ap (verifyCode (codeOf file)) (sym q) ∙ e)
+  checked-fit layout (checked.Refused r) e = let z : _≡_ {A = ℕ} 0 1 = cc in absurd (omega arith)
 
-module _ (file : List ℕ) (layout : Layout) where
-  -- a fit file has passed checks 2 to 8
-  pub fit-checked : verifyOf file ≡ Fit layout → checkOf file ≡ checked.Valid layout
-  unfolding verifyOf
-  fit-checked e =
-      let s = checked-code file layout (checkOf file) e in
-      let q = code-layout (codeOf file) (s .0 .«window_start») (s .0 .«window_length») layout (s .2) in
-      s .1 ∙ ap checked.Valid (layout-is file (s .0) (s .1) ∙ sym q)
+  module _ (layout : Layout) where
+    -- a fit file has passed checks 2 to 8
+    pub fit-checked : verifyOf file ≡ Fit layout → checkOf file ≡ checked.Valid layout
+    unfolding verifyOf
+    fit-checked e = checked-fit layout (checkOf file) e .0
 
-  -- and each instruction of its code passes checks 9 to 14
-  pub fit-passes : verifyOf file ≡ Fit layout → (i : ℕ) → i < length (codeOf file)
-      → Passes (codeOf file) (layout .«window_start») (layout .«window_length») i
-  unfolding verifyOf
-  fit-passes e i h =
-      code-passes (codeOf file) (layout .«window_start») (layout .«window_length») layout
-      (sym (ap (verifyChecked file) (fit-checked e)) ∙ e) i h
+    -- and each instruction of its code passes checks 9 to 14
+    pub fit-passes : verifyOf file ≡ Fit layout → (i : ℕ) → i < length (codeOf file) → Passes (codeOf file) layout i
+    unfolding verifyOf
+    fit-passes e i h =
+        below-passes (codeOf file) layout (length (codeOf file)) i (code-fit (codeOf file) layout layout (checked-fit layout (checkOf file) e .1) .0) h
 
-  -- and there is no more to it
-  pub passes-fit : checkOf file ≡ checked.Valid layout
-      → ((i : ℕ) → i < length (codeOf file) → Passes (codeOf file) (layout .«window_start») (layout .«window_length») i)
-      → verifyOf file ≡ Fit layout
+    -- and there is no more to it
+    passes-fit : checkOf file ≡ checked.Valid layout → ((i : ℕ) → i < length (codeOf file) → Passes (codeOf file) layout i) → verifyOf file ≡ Fit layout
+    unfolding verifyOf
+    passes-fit ok all = ap (verifyChecked file) ok ∙ sym (fit (codeOf file) layout (below-pass (codeOf file) layout (length (codeOf file)) all))
+
+  -- a refused file fails one of checks 2 to 8, or has a first instruction that does not pass
+  refused-first : (r : Refusal) (d : Checked) → checkOf file ≡ d → verifyChecked file d ≡ Refused r → (checkOf file ≡ checked.Refused r) ⊎ RefusedInCode file r
+  refused-first r (checked.Valid layout) ok e =
+      let f = first-no (codeOf file) layout (length (codeOf file)) r (code-refused (codeOf file) layout r e) in
+      inr (record { layout = layout; accepted = ok; index = f .0; inside = f .1; before = λ k h. f .2 k (omega arith); no = f .3 })
+  refused-first r (checked.Refused s) ok e = let q : s ≡ r = cc in inl (ok ∙ ap checked.Refused q)
+
+  first-refused : (r : Refusal) → (checkOf file ≡ checked.Refused r) ⊎ RefusedInCode file r → verifyOf file ≡ Refused r
   unfolding verifyOf
-  passes-fit ok all =
-      ap (verifyChecked file) ok
-      ∙ passes-code (codeOf file) (layout .«window_start») (layout .«window_length») all
-      ∙ ap Fit (sym (layout-is file layout ok))
+  first-refused r (inl e) = ap (verifyChecked file) e
+  first-refused r (inr f) =
+      ap (verifyChecked file) (f .accepted)
+      ∙ sym (refusal (codeOf file) (f .layout) (f .index) r (f .inside) (below-pass (codeOf file) (f .layout) (f .index) (λ k h. f .before k (omega arith))) (f .no))
+
+pub passes-exactly : PassesExactly
+passes-exactly file layout =
+    (λ e. (fit-checked file layout e, λ i h. fit-passes file layout e i (omega arith)), λ p. passes-fit file layout (p .0) (λ i h. p .1 i (omega arith)))
+
+pub refuses-exactly : RefusesExactly
+unfolding verifyOf
+refuses-exactly file r = (refused-first file r (checkOf file) refl, first-refused file r)

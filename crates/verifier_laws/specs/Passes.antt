@@ -2,25 +2,26 @@
 use mathlib.Core.Bool.{true}
 use mathlib.Core.List.{List}
 use mathlib.Core.Path.{_≡_}
-use Prim.Native.Nat.{ℕ, suc, _*_, _<_}
+use Prim.Native.Nat.{ℕ, suc, _<_}
 use lib.Dec.{eqb}
 use lib.ListN.{length, getD}
 use Rattle.isa.specs.declared.decoder.Decoded.the-variants.{Defined}
 use Rattle.isa.specs.declared.instruction.Instruction.{Instruction}
+use Rattle.image.specs.declared.checker.Layout.{Layout}
 use Rattle.verifier.specs.Access.{accessOf}
 use Rattle.verifier.specs.State.{value}
 use Rattle.verifier.specs.Targets.{addressOf, decodedAt, goesTo}
 use Rattle.verifier.specs.Questions.{check10, check11, check12, check13, check14}
 use Rattle.verifier.specs.Verify.{valuesAt}
 
--- instruction i of a code gets a yes to checks 9 to 14, in the state before it
-pub record Passes (code : List ℕ) (w l i : ℕ) : Type 0 where
+-- instruction i of a code with a layout gets a yes to checks 9 to 14, in the state before it
+pub record Passes (code : List ℕ) (layout : Layout) (i : ℕ) : Type 0 where
   pub instruction : Instruction
   pub passes9 : decodedAt code i ≡ Defined instruction
-  pub passes10 : check10 (value (valuesAt code i) (accessOf instruction .base)) w l (accessOf instruction) ≡ true
+  pub passes10 : check10 (value (valuesAt code i) (accessOf instruction .base)) layout (accessOf instruction) ≡ true
   pub passes11 : check11 (value (valuesAt code i) (accessOf instruction .base)) (accessOf instruction) ≡ true
   pub passes12 : check12 instruction ≡ true
-  pub passes13 : check13 (2 * length code) (addressOf i) instruction ≡ true
+  pub passes13 : check13 layout (addressOf i) instruction ≡ true
   pub passes14 : check14 (eqb (suc i) (length code)) (getD code i 0) ≡ true
 
 -- some branch of the code goes to instruction j

@@ -1,6 +1,6 @@
 -- The code of a fit file lies in the file, and code and window lie in memory.
 use mathlib.Core.Path.{ap, _∙_}
-use Prim.Native.Nat.{_+_, _/_}
+use Prim.Native.Nat.{_+_}
 use native.Mathlib.Omega.{arith}
 use borrow.Author.Needs.{needs}
 use lib.ListN.{length}
@@ -10,23 +10,35 @@ use Rattle.loader.proofs.Fit.{window-fits, code-there, code-fits-memory
 use Rattle.loader.proofs.loader.place.Statement.{statement}
 use Rattle.loader.proofs.loader.place.Tie as tie
 
+-- the function's entry, from where the instructions are counted
+abbrev entry : tie.After-instruction-index → tie.Start
+entry n = n .before .before .before .before .before
+
 copy-code-requires : tie.Need-copy-code-requires
 copy-code-requires c κs =
-    let s = c .before .before .before .before .before .before in
-    (code-there (s .args .file .now) (s .args .layout) (s .pre .0), omega (arith, code-fits-memory (s .args .file .now) (s .args .layout) (s .pre .0), s .pre .1))
+    let n = c .before in
+    let s = entry n in (
+      code-there (s .args .file .now) (s .args .layout) (s .pre .0) _ (n .instruction-index .ensures),
+      omega (arith, code-fits-memory (s .args .file .now) (s .args .layout) (s .pre .0) _ (n .instruction-index .ensures), s .pre .1),
+    )
 
 clear-window-requires : tie.Need-clear-window-requires
 clear-window-requires c κs =
-    let s = c .before .before .before .before .before .before .before .before .before .before in
-    let copied = code-long (s .args .file .now) (s .args .memory .now) (s .args .layout .«code_bytes» / 2) in
-    (omega arith, omega (arith, window-fits (s .args .file .now) (s .args .layout) (s .pre .0), ap length (c .before .before .before .copy-code .ensures), copied, s .pre .1))
+    let k = c .before .before .before in
+    let n = k .before .before in
+    let s = entry n in
+    let copied = code-long (s .args .file .now) (s .args .memory .now) (n .instruction-index .result .0) in
+    (omega arith, omega (arith, window-fits (s .args .file .now) (s .args .layout) (s .pre .0), ap length (k .copy-code .ensures), copied, s .pre .1))
 
 returns : tie.Need-returns
 returns c =
-    let s = c .before .before .before .before .before .before .before .before .before .before .before .before .before in
-    c .before .before .clear-window .ensures
-    ∙ ap (cleared (s .args .layout .«window_start») (s .args .layout .«window_start» + s .args .layout .«window_length»)) (c .before .before .before .before .before .before .copy-code .ensures)
-    ∙ placed (s .args .file .now) (s .args .layout) (s .pre .0) (s .args .memory .now) (s .pre .1)
+    let w = c .before .before in
+    let k = w .before .before .before .before in
+    let n = k .before .before in
+    let s = entry n in
+    w .clear-window .ensures
+    ∙ ap (cleared (s .args .layout .«window_start») (s .args .layout .«window_start» + s .args .layout .«window_length»)) (k .copy-code .ensures)
+    ∙ placed (s .args .file .now) (s .args .layout) (s .pre .0) _ (n .instruction-index .ensures) (s .args .memory .now) (s .pre .1)
 
 pub place-spec : {M : Type 1} → statement M
 place-spec =
@@ -35,6 +47,7 @@ place-spec =
     (λ c. search needs)
     (λ c. search needs)
     (λ c. search needs)
+    (λ c κs. search needs)
     copy-code-requires
     clear-window-requires
     (λ c. search needs)

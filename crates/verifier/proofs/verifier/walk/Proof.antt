@@ -21,8 +21,7 @@ use Rattle.verifier.specs.Words.{stateOf}
 use Rattle.verifier.specs.Targets.{targeted}
 use Rattle.verifier.specs.Questions.{answerAt}
 use Rattle.verifier.specs.Verify.{entering, valuesAt, checksAt, codeChecks, verdictBelow}
-use Rattle.verifier.specs.declared.verifier.Verdict.the-variants.{Fit}
-use Rattle.verifier.proofs.Accepted.{count-is, position-inside, position-small, halfword-is, layout-is}
+use Rattle.verifier.proofs.Accepted.{count-is, position-inside, position-small, halfword-is}
 use Rattle.verifier.proofs.Position.{position-next}
 use Rattle.verifier.proofs.Walk.{arrives, length-values, answer-refused, next, refusal, fit, checked, left}
 use Rattle.verifier.proofs.Words.{length-state, state-replicate}
@@ -30,12 +29,12 @@ use Rattle.verifier.proofs.verifier.walk.Statement.{statement}
 use Rattle.verifier.proofs.verifier.walk.Tie as tie
 
 abbrev Inv-loop : tie.InvT-loop
-Inv-loop file layout count marks unknown state₀ number₀ position₀ state number position =
-    (number ≤ count .0) × (position ≡ codePosition number) × (stateOf state ≡ entering (codeOf file) number)
-    × (verdictBelow (codeOf file) (layout .«window_start») (layout .«window_length») number ≡ Pass)
+Inv-loop file layout count marks unknown state₀ i₀ position₀ state i position =
+    (i .0 ≤ count .0) × (position ≡ codePosition (i .0)) × (stateOf state ≡ entering (codeOf file) (i .0))
+    × (verdictBelow (codeOf file) layout (i .0) ≡ Pass)
 
 abbrev μ-loop : tie.MeasureT-loop
-μ-loop file layout count marks unknown state₀ number₀ position₀ state number position = count .0 - number
+μ-loop file layout count marks unknown state₀ i₀ position₀ state i position = count .0 - i .0
 
 -- ---- the turns
 
@@ -51,12 +50,15 @@ loop-holds : tie.Need-loop-holds Inv-loop μ-loop
 unfolding entering verdictBelow codeChecks firstNo
 loop-holds c = (search needs, refl, unknown-is c, refl)
 
--- the places before a turn: the function's entry, and the count of turns
+-- the places before a turn: the loop's head, the function's entry, and the count of turns
+abbrev head : tie.Then1 Inv-loop μ-loop → tie.At-loop Inv-loop μ-loop
+head c = c .before .before .before
+
 abbrev entry : tie.Then1 Inv-loop μ-loop → tie.Start Inv-loop μ-loop
-entry c = c .before .before .before .before .before .before .before .before
+entry c = head c .before .before .before .before .before .before
 
 abbrev counted : tie.Then1 Inv-loop μ-loop → tie.After-instruction-index Inv-loop μ-loop
-counted c = c .before .before .before .before .before .before
+counted c = head c .before .before .before .before
 
 -- what a turn is about
 abbrev code : tie.Then1 Inv-loop μ-loop → List ℕ
@@ -66,7 +68,7 @@ abbrev layout : tie.Then1 Inv-loop μ-loop → Layout
 layout c = entry c .args .layout
 
 abbrev number : tie.Then1 Inv-loop μ-loop → ℕ
-number c = c .before .before .loop .number
+number c = head c .loop .i .0
 
 -- it is at an instruction of the code
 inside : (c : tie.Then1 Inv-loop μ-loop) → number c < length (code c)
@@ -93,11 +95,11 @@ state-is c =
     let n = inside t in
     let m = valid-code _ _ (entry t .pre) in
     let e : c .before .is-marked .result ≡ targeted (code t) (number t)
-    = c .before .is-marked .ensures ∙ t .before .before .before .before .before .mark-targets .ensures (number t) (omega arith) in
+    = c .before .is-marked .ensures ∙ head t .before .before .before .mark-targets .ensures (number t) (omega arith) in
     let pick : Bool → State = λ b. cond b unknownState (entering (code t) (number t)) in
     ⊎-elim
-    (λ x. ap stateOf (x .1) ∙ unknown-is (t .before .before .before) ∙ sym (ap pick (sym e ∙ x .0 .taken)))
-    (λ x. ap stateOf (x .1) ∙ t .before .before .loop .inv .2 ∙ sym (ap pick (sym e ∙ x .0 .left)))
+    (λ x. ap stateOf (x .1) ∙ unknown-is (head t .before) ∙ sym (ap pick (sym e ∙ x .0 .taken)))
+    (λ x. ap stateOf (x .1) ∙ head t .loop .inv .2 ∙ sym (ap pick (sym e ∙ x .0 .left)))
     (c .if2 .came)
 
 -- the turn, from where the address is in R15
@@ -122,68 +124,72 @@ values-are c =
 halfword-at-requires : tie.Need-halfword-at-requires Inv-loop μ-loop
 halfword-at-requires c κs =
     let t = placed c in
-    position-inside _ _ (entry t .pre) _ _ (inside t) (t .before .before .loop .inv .1)
+    position-inside _ _ (entry t .pre) _ _ (inside t) (head t .loop .inv .1)
 
 found : (c : tie.After-halfword-at Inv-loop μ-loop) → c .halfword-at .result ≡ getD (code (placed (c .before))) (number (placed (c .before))) 0
 found c =
     let t = placed (c .before) in
-    halfword-is _ _ (entry t .pre) _ _ (inside t) (t .before .before .loop .inv .1) _ (c .halfword-at .ensures)
+    halfword-is _ _ (entry t .pre) _ _ (inside t) (head t .loop .inv .1) _ (c .halfword-at .ensures)
 
 first-no-requires : tie.Need-first-no-requires Inv-loop μ-loop
 first-no-requires c κs =
-    let x = c .before .before .before in
+    let x = c .before .before .before .before in
     sym (length-state (x .set-value .last .0)) ∙ ap length (values-are x) ∙ length-values (code (placed x)) (number (placed x))
 
--- the place before the checks
+-- the places before the checks: the halfword is read, and the state is ready
+abbrev read : tie.After-first-no Inv-loop μ-loop → tie.After-halfword-at Inv-loop μ-loop
+read c = c .before .before .before .before
+
 abbrev ready : tie.After-first-no Inv-loop μ-loop → tie.After-set-value Inv-loop μ-loop
-ready c = c .before .before .before .before
+ready c = read c .before
 
 -- what the checks come to
 checks-are : (c : tie.After-first-no Inv-loop μ-loop) → let t = placed (ready c) in
-    firstNo (checksAt (code t) (layout t .«window_start») (layout t .«window_length») (number t)) ≡ answerAt (address (ready c)) (c .first-no .result)
+    firstNo (checksAt (code t) (layout t) (number t)) ≡ answerAt (address (ready c)) (c .first-no .result)
 checks-are c =
     let x = ready c in
     let t = placed x in
-    checked (code t) (layout t .«window_start») (layout t .«window_length») (number t) (c .before .before .before .halfword-at .result) (address x) (state x)
-    (x .before .before .before .before .before .before .byte-address .ensures) (found (c .before .before .before)) (values-are x)
-    (layout t) _ (c .first-no .result) (layout-is _ _ (entry t .pre)) (ap₂ eqb (add-one (number t)) (turns (counted t))) (c .first-no .ensures .0)
+    checked (code t) (layout t) (number t) (read c .halfword-at .result) (address x) (state x)
+    (x .before .before .before .before .before .before .byte-address .ensures) (found (read c)) (values-are x)
+    _ (c .first-no .result) (ap₂ eqb (add-one (number t)) (turns (counted t))) (c .first-no .ensures .0)
 
 returns : tie.Need-returns Inv-loop μ-loop
 returns c =
     let f = c .before .before in
     let t = placed (ready f) in
     c .refused .ensures
-    ∙ refusal (code t) (layout t .«window_start») (layout t .«window_length») (number t) _ (inside t) (t .before .before .loop .inv .3)
+    ∙ refusal (code t) (layout t) (number t) _ (inside t) (head t .loop .inv .3)
     (checks-are f ∙ answer-refused _ _ (c .before .if3 .taken))
 
 position-after-requires : tie.Need-position-after-requires Inv-loop μ-loop
 position-after-requires c κs =
     let t = placed (ready (c .before)) in
-    position-small _ _ (entry t .pre) _ _ (inside t) (t .before .before .loop .inv .1)
+    position-small _ _ (entry t .pre) _ _ (inside t) (head t .loop .inv .1)
 
 -- ---- the next turn, and the end
 
 loop-again : tie.Need-loop-again Inv-loop μ-loop
 loop-again c =
-    let f = c .before .before in
+    let p = c .before in
+    let f = p .before .before in
     let x = ready f in
     let t = placed x in
-    let i = t .before .before .loop .inv in (
+    let i = head t .loop .inv in (
       search needs,
-      rw add-one (c .position-after .ensures ∙ ap positionAfter (i .1) ∙ position-next _),
-      rw add-one (left (code t) (layout t .«window_start») (layout t .«window_length») (number t) (f .before .before .before .halfword-at .result) (address x) (state x)
-          (x .before .before .before .before .before .before .byte-address .ensures) (found (f .before .before .before)) (values-are x) _ (f .first-no .ensures .1)),
-      rw add-one (next _ _ _ _ (i .3) ∙ checks-are f ∙ ap (answerAt (address x)) (c .before .if3 .left)),
+      rw add-one (p .position-after .ensures ∙ ap positionAfter (i .1) ∙ position-next _),
+      rw add-one (left (code t) (layout t) (number t) (read f .halfword-at .result) (address x) (state x)
+          (x .before .before .before .before .before .before .byte-address .ensures) (found (read f)) (values-are x) _ (f .first-no .ensures .1)),
+      rw add-one (next _ _ _ (i .3) ∙ checks-are f ∙ ap (answerAt (address x)) (p .before .if3 .left)),
     )
 
 returns-2 : tie.Need-returns-2 Inv-loop μ-loop
 returns-2 c =
-    let start = c .before .before .before .before .before .before .before .before in
+    let h = c .before .before .before in
+    let start = h .before .before .before .before .before .before in
     let whole = codeOf (start .args .file .now) in
-    let n = turns (c .before .before .before .before .before .before) in
-    let e : c .before .before .loop .number ≡ length whole = omega arith in
-    ap Fit (layout-is _ _ (start .pre))
-    ∙ fit whole (start .args .layout .«window_start») (start .args .layout .«window_length») (rw e at (c .before .before .loop .inv .3))
+    let n = turns (h .before .before .before .before) in
+    let e : h .loop .i .0 ≡ length whole = omega arith in
+    fit whole (start .args .layout) (rw e at (h .loop .inv .3))
 
 pub walk-spec : {M : Type 1} → statement M
 walk-spec =

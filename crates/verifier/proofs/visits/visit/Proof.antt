@@ -18,7 +18,7 @@ returns c =
     let e : field (m .args .h) 11 5 ≡ 0 = omega (arith, c .before .before .bits .ensures) in
     as-known (decodeOf (m .args .h)) (haltOf (m .args .h)) _ _ (m .args .layout) (m .args .a) _ (is-halt (m .args .h) (search needs) e) (
       c .visit-halt .ensures _ (m .args .layout) (m .args .a),
-      sym (after-halt (m .args .a .0) (m .args .h) _),
+      sym (after-halt (m .args .a) (m .args .h) _),
     )
 
 returns-2 : tie.Need-returns-2
@@ -45,7 +45,7 @@ returns-4 c =
     let e : field (m .args .h) 11 5 ≡ 8 = omega (arith, c .before .before .before .bits .ensures) in
     as-known (decodeOf (m .args .h)) (registersOf (m .args .h)) _ _ (m .args .layout) (m .args .a) _ (is-registers (m .args .h) (search needs) e) (
       c .visit-registers .ensures .0 _ (m .args .layout) (m .args .a),
-      c .visit-registers .ensures .1 (m .args .a .0),
+      c .visit-registers .ensures .1 (m .args .a),
     )
 
 returns-5 : tie.Need-returns-5
@@ -108,7 +108,7 @@ returns-11 c =
     let e : field (m .args .h) 11 5 ≡ 27 = omega (arith, c .before .before .bits .ensures) in
     as-known (decodeOf (m .args .h)) (branchOf (m .args .h)) _ _ (m .args .layout) (m .args .a) _ (is-upper-branch (m .args .h) (search needs) e) (
       c .visit-branch .ensures _,
-      sym (after-branch (m .args .a .0) (m .args .h) _),
+      sym (after-branch (m .args .a) (m .args .h) _),
     )
 
 returns-12 : tie.Need-returns-12
