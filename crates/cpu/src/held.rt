@@ -1,18 +1,14 @@
 // How a machine is held while instructions run: the registers in an array, the
 // flags and the PC by value beside it. What the array has at 15 doesn't count;
 // an instruction that may name R15 first puts the PC there.
-use super::machine::Machine;
 use super::outcome::Outcome;
 use super::status::Status;
-use super::status::is_negative;
-use super::status::is_zero;
-use super::status::result_of;
 ghost use mathlib.Core.Path.{_≡_};
 ghost use Prim.Native.Nat.{_+_, _<_};
 ghost use lib.ListN.{set};
 ghost use Rattle.units.specs.Address.{wrap};
 ghost use Rattle.cpu.specs.Machine.{machine, written};
-ghost use Rattle.cpu.specs.Held.{flagsIn, statusIn, held, control, Whole, Holds};
+ghost use Rattle.cpu.specs.Held.{flagsIn, statusIn, control, Whole, Holds};
 
 // The PC and the flags. The fields of `Status` stand here one by one: a struct of
 // eight bytes inside another is moved as one word, and packed and unpacked at
@@ -46,37 +42,6 @@ pub(crate) fn control_at(pc: u16, status: Status) -> Control
     Control {
         pc,
         result: status.result,
-        c: status.c,
-        v: status.v,
-    }
-}
-
-// What stands beside the registers of a machine.
-pub fn control_of(m: Machine) -> Control
-    ensures { λ k. ⌜ held (m .regs) k ≡ m ⌝ }
-{
-    let result = result_of(m.n, m.z);
-    Control {
-        pc: m.regs[15],
-        result,
-        c: m.c,
-        v: m.v,
-    }
-}
-
-// The machine that is held.
-pub fn assemble(regs: [u16; 16], k: Control) -> Machine
-    ensures { λ m. ⌜ m ≡ held regs k ⌝ }
-{
-    let mut regs = regs;
-    regs[15] = k.pc;
-    let status = status_in(k);
-    let n = is_negative(status);
-    let z = is_zero(status);
-    Machine {
-        regs,
-        n,
-        z,
         c: status.c,
         v: status.v,
     }

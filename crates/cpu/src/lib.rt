@@ -12,7 +12,5 @@ mod status;
 pub use executor::fetch_and_execute;
 pub use held::Control;
 pub use held::Executed;
-pub use held::assemble;
-pub use held::control_of;
 pub use machine::Machine;
 pub use outcome::Outcome;

@@ -2,9 +2,7 @@
 // of, so that an instruction which sets them has no work with them: N is set
 // where it is 0x8000 or more, Z where its low 16 bits are 0.
 ghost use mathlib.Core.Path.{_≡_};
-ghost use Prim.Native.Nat.{_%_};
-ghost use lib.Dec.{eqb};
-ghost use Rattle.cpu.specs.Alu.{negative, conditionOf};
+ghost use Rattle.cpu.specs.Alu.{conditionOf};
 ghost use Rattle.cpu.specs.Held.{flagsIn, stateOf, statesOf};
 
 pub struct Status {
@@ -13,27 +11,13 @@ pub struct Status {
     pub v: bool,
 }
 
-// A result that N and Z, as they are, may speak of. 0x10000 stands for both
-// set, which no instruction leaves but a start may have.
-pub(crate) fn result_of(n: bool, z: bool) -> u32
-    ensures { λ r. ⌜ (negative r ≡ n) × (eqb (r % 65536) 0 ≡ z) ⌝ }
-{
-    if n {
-        if z { 0x10000 } else { 0x8000 }
-    } else if z {
-        0
-    } else {
-        1
-    }
-}
-
-pub(crate) fn is_negative(s: Status) -> bool
+fn is_negative(s: Status) -> bool
     ensures { λ r. ⌜ r ≡ flagsIn s .n ⌝ }
 {
     s.result >= 0x8000
 }
 
-pub(crate) fn is_zero(s: Status) -> bool
+fn is_zero(s: Status) -> bool
     ensures { λ r. ⌜ r ≡ flagsIn s .z ⌝ }
 {
     s.result % 65536 == 0

@@ -1,4 +1,5 @@
 // A run of the PAW processor: steps until a budget is spent.
+mod held;
 mod runs;
 
 pub use runs::Ran;

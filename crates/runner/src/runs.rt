@@ -1,9 +1,9 @@
 // A run of a machine by value.
+use super::held::assemble;
+use super::held::control_of;
 use cpu::Control;
 use cpu::Machine;
 use cpu::Outcome;
-use cpu::assemble;
-use cpu::control_of;
 use cpu::fetch_and_execute;
 use refusals::Refusal;
 use refusals::refusal_of;

@@ -1,8 +1,8 @@
 -- What is read at 15 and written there again changes nothing, and the result that is held tells N and Z.
 use lib.Seq.{set-getD}
 use borrow.Author.Needs.{needs}
-use Rattle.cpu.proofs.held.control_of.Statement.{statement}
-use Rattle.cpu.proofs.held.control_of.Tie as tie
+use Rattle.runner.proofs.held.control_of.Statement.{statement}
+use Rattle.runner.proofs.held.control_of.Tie as tie
 
 pub control-of-spec : {M : Type 1} → statement M
 control-of-spec =
