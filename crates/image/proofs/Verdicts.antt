@@ -94,11 +94,11 @@ module _ (file : List ℕ) (blocks : ℕ) (last : List ℕ) (used : ℕ) where
   pub last-used-most : blocks ≡ blocksIn file → 1 ≤ blocks → firstNo (checksBelow file blocks) ≡ Pass → last ≡ blockOf file (blocks - 1) → used ≡ usedOf last → used ≤ blockCode
   last-used-most n h e b u = rw (u, b) (used-in-block file (blocks - 1) (each-passed file (blocks - 1) blocks (omega arith) e))
 
-  pub layout-is : (first : List ℕ) (w l : ℕ) → blocks ≡ blocksIn file → last ≡ blockOf file (blocks - 1) → first ≡ blockOf file 0
+  pub layout-is : (first : List ℕ) (c w l : ℕ) → c ≡ 2 * (blockCode * (blocks - 1) + used) → blocks ≡ blocksIn file → last ≡ blockOf file (blocks - 1) → first ≡ blockOf file 0
       → used ≡ usedOf last → w ≡ windowStartOf first → l ≡ windowLengthOf first
-      → _≡_ {A = Layout} (record { «code_bytes» = 2 * (blockCode * (blocks - 1) + used); «window_start» = w; «window_length» = l }) (layoutOf file)
+      → _≡_ {A = Layout} (record { «code_bytes» = c; «window_start» = w; «window_length» = l }) (layoutOf file)
   unfolding layoutOf codeLength
-  layout-is first w l n b f u ew el = simp (ew, el, u, b, f, n)
+  layout-is first c w l ec n b f u ew el = simp (ec, ew, el, u, b, f, n)
 
 -- check 2 says how long a file is
 pub size-right : (file : List ℕ) → check2 file ≡ true → (length file % blockBytes ≡ 0) × (blockBytes ≤ length file) × (length file ≤ mostBytes)

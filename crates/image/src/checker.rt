@@ -11,7 +11,9 @@ use super::format::MARK;
 use super::format::MOST_BYTES;
 use refusals::Refusal;
 use refusals::refusal_of;
+use units::InstructionIndex;
 use units::MEMORY_BYTES;
+use units::byte_address;
 ghost use mathlib.Core.List.{[], _∷_};
 ghost use mathlib.Core.Path.{_≡_};
 ghost use Prim.Native.Nat.{_-_, _<_, _≤_};
@@ -177,7 +179,8 @@ fn check_blocks(file: &[u8], blocks: u8) -> Answer
     Answer::Pass
 }
 
-// c, w and l of a file whose blocks have passed.
+// c, w and l of a file whose blocks have passed: the code ends where the
+// instruction after its last would stand.
 fn read_layout(file: &[u8], blocks: u8) -> Layout
     requires { ⌜ (blocks ≡ blocksIn (now file)) × (1 ≤ blocks) × (blocks ≤ mostBlocks) × (firstNo (checksBelow (now file) blocks) ≡ Answer.Pass) ⌝ }
     ensures { λ r. ⌜ r ≡ layoutOf (now (file .entry)) ⌝ }
@@ -186,8 +189,9 @@ fn read_layout(file: &[u8], blocks: u8) -> Layout
     let first = block_part(file, 0);
     let last = block_part(file, before);
     let used = field(last, 2) as usize;
+    let end = byte_address(InstructionIndex((BLOCK_CODE * before + used) as u16));
     Layout {
-        code_bytes: (2 * (BLOCK_CODE * before + used)) as u16,
+        code_bytes: end.0,
         window_start: field(first, 3),
         window_length: field(first, 4),
     }

@@ -7,6 +7,8 @@ use image::MOST_CODE;
 use image::is_window;
 use refusals::Refusal;
 use refusals::refusal_of;
+use units::InstructionIndex;
+use units::byte_address;
 ghost use mathlib.Core.Path.{_≡_};
 ghost use lib.ListN.{length};
 ghost use Rattle.refusals.specs.Refusal.{refusal};
@@ -30,7 +32,8 @@ fn check_pack(code: &[u16], w: u16, l: u16, size: usize) -> Answer
     if MOST_CODE < n {
         return Answer::Refused(refusal_of(15));
     }
-    if !is_window((2 * n) as u16, w, l) {
+    let end = byte_address(InstructionIndex(n as u16));
+    if !is_window(end.0, w, l) {
         return Answer::Refused(refusal_of(8));
     }
     if size != BLOCK_BYTES * blocks_needed(n) {
