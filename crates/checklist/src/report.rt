@@ -8,6 +8,8 @@ use loader::Loaded;
 use reader::Given;
 use runner::RunOutcome;
 use verifier::Verdict;
+ghost use mathlib.Core.Path.{_≡_};
+ghost use Rattle.image.specs.Check.{checkOf};
 
 // A machine as it starts: all registers and flags 0.
 fn cleared() -> Machine {
@@ -22,10 +24,12 @@ fn cleared() -> Machine {
 
 // How many blocks a reader of the file gives before it has none left, by what the
 // checks said of it.
-fn count_blocks(file: &[u8], answer: Checked) -> u64 {
+fn count_blocks(file: &[u8], checked: Checked) -> u64
+    requires { ⌜ checked ≡ checkOf (now file) ⌝ }
+{
     let mut n: usize = 0;
     while n < image::MOST_BLOCKS {
-        let Given::Block(_) = reader::given_as(file, n, answer) else {
+        let Given::Block(_) = reader::given_checked(file, n, checked) else {
             return n as u64;
         };
         n += 1;
@@ -80,11 +84,11 @@ fn print_window(file: &[u8], budget: u32) {
 
 fn print_blocks(file: &[u8], budget: u32) {
     print(b"Blocks: ");
-    let answer = image::check(file);
-    match answer {
+    let checked = image::check(file);
+    match checked {
         Checked::Refused(r) => print_verdict(Verdict::Refused(r)),
         Checked::Valid(_) => {
-            print_number(count_blocks(file, answer));
+            print_number(count_blocks(file, checked));
             print(b"\n");
             print_window(file, budget);
         }

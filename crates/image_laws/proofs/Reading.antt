@@ -66,7 +66,7 @@ module _ (file : List ℕ) where
 -- the reader of a file that comes to block k next
 module _ (file : RefT (List ℕ)) where
   abbrev at-block : ℕ → BlockReader
-  at-block k = record { file = file; next = k; answer = checkOf (now file) }
+  at-block k = record { file = file; next = k; checked = checkOf (now file) }
 
   goes-from : (k : ℕ) → afterNext (at-block k) ≡ at-block (afterOf k (givenOf (now file) k))
   unfolding givenOf

@@ -45,14 +45,14 @@ afterOf next NoneLeft = next
 
 -- the reader of a file that is lent, before its first call
 abbrev pub openOf : RefT (List ℕ) → BlockReader
-openOf file = record { file = file; next = 0; answer = checkOf (now file) }
+openOf file = record { file = file; next = 0; checked = checkOf (now file) }
 
 -- what a reader answers to its next call, the bytes that the call gives out, and the reader after it
 abbrev pub answerOf : BlockReader → Given
-answerOf r = givenAs (now (r .file)) (r .next) (r .answer)
+answerOf r = givenAs (now (r .file)) (r .next) (r .checked)
 
 abbrev pub nextOf : BlockReader → List ℕ
 nextOf r = bytesOf (now (r .file)) (answerOf r)
 
 abbrev pub afterNext : BlockReader → BlockReader
-afterNext r = record { file = r .file; next = afterOf (r .next) (answerOf r); answer = r .answer }
+afterNext r = record { file = r .file; next = afterOf (r .next) (answerOf r); checked = r .checked }

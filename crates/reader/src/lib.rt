@@ -5,7 +5,7 @@ mod reader;
 pub use reader::BlockReader;
 pub use reader::Given;
 pub use reader::answer_of;
-pub use reader::given_as;
 pub use reader::given_at;
+pub use reader::given_checked;
 pub use reader::next;
 pub use reader::open;

@@ -6,6 +6,7 @@ use image::Checked;
 use image::check;
 use refusals::Refusal;
 ghost use mathlib.Core.Path.{_≡_};
+ghost use Rattle.image.specs.Check.{checkOf};
 ghost use Rattle.reader.specs.Reader.{blockAt, givenAs, givenOf, bytesOf, afterOf, openOf, answerOf, nextOf, afterNext};
 
 // What a reader answers to a call: why its file is refused, a block, by the byte
@@ -21,7 +22,7 @@ pub enum Given {
 pub struct BlockReader<'a> {
     file: &'a [u8],
     next: usize,
-    answer: Checked,
+    checked: Checked,
 }
 
 // The answer to a call at block `next` of an accepted file.
@@ -36,22 +37,21 @@ fn block_at(file: &[u8], next: usize) -> Given
 }
 
 // The answer to a call at block `next` of a file of which the checks said
-// `answer`: for callers that have checked it once and have no reader. Refused, a
-// block and none left are told apart here and nowhere else.
-pub fn given_as(file: &[u8], next: usize, answer: Checked) -> Given
-    ensures { λ r. ⌜ r ≡ givenAs (now (file .entry)) next answer ⌝ }
+// `checked`. Refused, a block and none left are told apart here and nowhere else.
+fn given_as(file: &[u8], next: usize, checked: Checked) -> Given
+    ensures { λ r. ⌜ r ≡ givenAs (now (file .entry)) next checked ⌝ }
 {
-    match answer {
+    match checked {
         Checked::Valid(_) => block_at(file, next),
         Checked::Refused(refusal) => Given::Refused(refusal),
     }
 }
 
 // The bytes that the call gives out: the block, or none.
-fn part_at(file: &[u8], next: usize, answer: Checked) -> &[u8]
-    ensures { λ r. ⌜ now r ≡ bytesOf (now (file .entry)) (givenAs (now (file .entry)) next answer) ⌝ }
+fn part_at(file: &[u8], next: usize, checked: Checked) -> &[u8]
+    ensures { λ r. ⌜ now r ≡ bytesOf (now (file .entry)) (givenAs (now (file .entry)) next checked) ⌝ }
 {
-    match given_as(file, next, answer) {
+    match given_as(file, next, checked) {
         Given::Refused(_) => &file[..0],
         Given::Block(start) => {
             let end = start + BLOCK_BYTES;
@@ -62,10 +62,10 @@ fn part_at(file: &[u8], next: usize, answer: Checked) -> &[u8]
 }
 
 // The number of the block that comes next after the call.
-fn number_after(file: &[u8], next: usize, answer: Checked) -> usize
-    ensures { λ r. ⌜ r ≡ afterOf next (givenAs (now (file .entry)) next answer) ⌝ }
+fn number_after(file: &[u8], next: usize, checked: Checked) -> usize
+    ensures { λ r. ⌜ r ≡ afterOf next (givenAs (now (file .entry)) next checked) ⌝ }
 {
-    match given_as(file, next, answer) {
+    match given_as(file, next, checked) {
         Given::Refused(_) => next,
         Given::Block(_) => next + 1,
         Given::NoneLeft => next,
@@ -76,11 +76,11 @@ fn number_after(file: &[u8], next: usize, answer: Checked) -> usize
 pub fn open<'a>(file: &'a [u8]) -> BlockReader<'a>
     ensures { λ r. ⌜ r ≡ openOf (file .entry) ⌝ }
 {
-    let answer = check(file);
+    let checked = check(file);
     BlockReader {
         file,
         next: 0,
-        answer,
+        checked,
     }
 }
 
@@ -88,7 +88,7 @@ pub fn open<'a>(file: &'a [u8]) -> BlockReader<'a>
 pub fn answer_of<'a>(r: BlockReader<'a>) -> Given
     ensures { λ a. ⌜ a ≡ answerOf (r .entry) ⌝ }
 {
-    given_as(r.file, r.next, r.answer)
+    given_as(r.file, r.next, r.checked)
 }
 
 // Gives the next block, its 512 bytes, and goes on to the one after. It gives no
@@ -99,16 +99,24 @@ pub fn next<'s, 'a>(r: &'s mut BlockReader<'a>) -> &'a [u8]
 {
     let file = r.file;
     let at = r.next;
-    let answer = r.answer;
-    r.next = number_after(file, at, answer);
-    part_at(file, at, answer)
+    let checked = r.checked;
+    r.next = number_after(file, at, checked);
+    part_at(file, at, checked)
 }
 
-// What the reader of a file answers to its call number `n`, from 0, for callers
-// with no reader, who have not checked the file either. A block has its 512 bytes
-// from where it starts.
+// What the reader of a file answers to its call number `n`, from 0, for a caller
+// with no reader who knows what the checks said of the file. A block has its 512
+// bytes from where it starts.
+pub fn given_checked(file: &[u8], n: usize, checked: Checked) -> Given
+    requires { ⌜ checked ≡ checkOf (now file) ⌝ }
+    ensures { λ r. ⌜ r ≡ givenOf (now (file .entry)) n ⌝ }
+{
+    given_as(file, n, checked)
+}
+
+// The same for a caller who has not checked the file.
 pub fn given_at(file: &[u8], n: usize) -> Given
     ensures { λ r. ⌜ r ≡ givenOf (now (file .entry)) n ⌝ }
 {
-    given_as(file, n, check(file))
+    given_checked(file, n, check(file))
 }

@@ -5,10 +5,10 @@ use Rattle.checklist.proofs.report.count_blocks.Statement.{statement}
 use Rattle.checklist.proofs.report.count_blocks.Tie as tie
 
 abbrev Inv-loop : tie.InvT-loop
-Inv-loop file answer n₀ n = n ≤ 64
+Inv-loop file checked n₀ n = n ≤ 64
 
 abbrev μ-loop : tie.MeasureT-loop
-μ-loop file answer n₀ n = 64 - n
+μ-loop file checked n₀ n = 64 - n
 
 pub count-blocks-spec : {M : Type 1} → statement M
 count-blocks-spec =

@@ -13,7 +13,7 @@ returns c =
 returns-2 : tie.Need-returns-2
 returns-2 c =
     let m = c .before .before .before .before in
-    ap (givenAs (m .args .file .now) (m .args .next)) (sym (c .before .answer .given .1))
+    ap (givenAs (m .args .file .now) (m .args .next)) (sym (c .before .checked .given .1))
 
 pub given-as-spec : {M : Type 1} → statement M
 given-as-spec = tie.close (tie.spec (λ c. search needs) (λ c κs. search needs) (λ c. search needs) returns returns-2)

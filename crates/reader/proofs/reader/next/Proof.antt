@@ -95,7 +95,7 @@ module _ {M : Type 1} (𝓤 : URA M) (H : Heap 𝓤) (A : Atoms 𝓤) (W : Given
 
   -- the struct with another number
   abbrev to-number : ℕ → BlockReader
-  to-number n = record { file = h .file; next = n; answer = h .answer }
+  to-number n = record { file = h .file; next = n; checked = h .checked }
 
   abbrev at : List Val × Unit {0}
   at = (vptr b o ∷ [], tt)
@@ -115,7 +115,7 @@ module _ {M : Type 1} (𝓤 : URA M) (H : Heap 𝓤) (A : Atoms 𝓤) (W : Given
   v = sliceVal (h .file .ptr) (length (h .file .now))
 
   abbrev w : Val
-  w = EL.val E.the-type E′.the-laws (h .answer)
+  w = EL.val E.the-type E′.the-laws (h .checked)
 
   abbrev found : Answer
   found = answerOf h
@@ -130,7 +130,7 @@ module _ {M : Type 1} (𝓤 : URA M) (H : Heap 𝓤) (A : Atoms 𝓤) (W : Given
   L = T′.the-laws (α κ′)
 
   abbrev vd : Values (D .parts)
-  vd = (h .file, (h .next, (h .answer, tt)))
+  vd = (h .file, (h .next, (h .checked, tt)))
 
   abbrev Fields : Fml
   Fields = all-own (D .parts) L vd
@@ -188,7 +188,7 @@ module _ {M : Type 1} (𝓤 : URA M) (H : Heap 𝓤) (A : Atoms 𝓤) (W : Given
         -- [the struct's cell; what the struct owns; the open borrow; obs; auth; 'a's token; nothing; _5; …; _4; …; _3; …; _2; …; _1; …; room for _0; …]
         assigns ! (of-opd ! (load ! (from ! (hop ! (look ! 15 refl) (fld ! refl (stop !)))) (look-in ! 0 (sub ! 0 refl (whole !))))) (from ! (stop !)) (init ! 13 refl (tt, LL.lawful (T.the-type (αᵉ κ′)) (T′.the-laws (αᵉ κ′)) 𝓤 H A W .typed h _ was .0 .1 .0)) $
         assigns ! (of-opd ! (load ! (from ! (hop ! (look ! 15 refl) (fld ! refl (stop !)))) (look-in ! 0 (sub ! 1 refl (whole !))))) (from ! (stop !)) (init ! 11 refl (tt, record { fits = was .1 .1 .1 .0 .1 })) $
-        assigns ! (of-opd ! (load ! (from ! (hop ! (look ! 15 refl) (fld ! refl (stop !)))) (look-in ! 0 (sub ! 2 refl (whole !))))) (from ! (stop !)) (init ! 9 refl (EL.lawful E.the-type E′.the-laws 𝓤 H A W tt .typed (h .answer) _ (LL.owed D L h _ was .1 .1 .0) .0)) $
+        assigns ! (of-opd ! (load ! (from ! (hop ! (look ! 15 refl) (fld ! refl (stop !)))) (look-in ! 0 (sub ! 2 refl (whole !))))) (from ! (stop !)) (init ! 9 refl (EL.lawful E.the-type E′.the-laws 𝓤 H A W tt .typed (h .checked) _ (LL.owed D L h _ was .1 .1 .0) .0)) $
         move ! (6 ∷ []) $ drop ! $ move ! (1 ∷ []) $ use1 W (‵ Own ⊛ ‵ Fields ⊛ ‵ Fields) parts $ split ! $ move ! (1 ∷ []) $ split ! $
         -- [the fields'; the fields'; what the struct owns; the struct's cell; the open borrow; obs; auth; 'a's token; _5; …; _4; …; _3; …; _2; …; _1; …; room for _0; …]
         move ! (0 ∷ 7 ∷ []) $ use2 W (raw (After 𝓤 H A at-mem run .pre to-after)) goes-after $

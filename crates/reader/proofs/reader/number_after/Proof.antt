@@ -10,7 +10,7 @@ use Rattle.reader.proofs.reader.number_after.Tie as tie
 add-result : tie.Need-add-result
 add-result c =
     let m = c .before .before .before .before in
-    let there = block-given (m .args .file .now) (m .args .next) (m .args .answer) _ (sym (c .before .before .given-as .ensures) ∙ c .enum-told2 .given .1) in
+    let there = block-given (m .args .file .now) (m .args .next) (m .args .checked) _ (sym (c .before .before .given-as .ensures) ∙ c .enum-told2 .given .1) in
     omega arith
 
 returns : tie.Need-returns

@@ -73,7 +73,7 @@ module _ {M : Type 1} (𝓤 : URA M) (H : Heap 𝓤) (A : Atoms 𝓤) (W : Given
   v = sliceVal (s .ptr) (length (s .now))
 
   abbrev made : Checked → BlockReader
-  made r = record { file = s; next = 0; answer = r }
+  made r = record { file = s; next = 0; checked = r }
 
   -- its machine value
   abbrev val : Checked → Val

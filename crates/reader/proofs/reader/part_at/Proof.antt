@@ -12,7 +12,7 @@ use Rattle.reader.proofs.reader.part_at.Tie as tie
 inside : (c : tie.After-known-told) → c .before .start .given .0 .0 + 512 ≤ length (c .before .before .before .before .before .args .file .now)
 inside c =
     let m = c .before .before .before .before .before in
-    let there = block-given (m .args .file .now) (m .args .next) (m .args .answer) (c .before .start .given .0 .0) (sym (c .before .before .before .given-as .ensures) ∙ c .before .start .given .1) in
+    let there = block-given (m .args .file .now) (m .args .next) (m .args .checked) (c .before .start .given .0 .0) (sym (c .before .before .before .given-as .ensures) ∙ c .before .start .given .1) in
     omega arith
 
 returns : tie.Need-returns
