@@ -59,9 +59,9 @@ length-after a (Defined i) s = length-transfer a i s
 length-after a Undefined s = refl
 
 -- a halfword whose meaning is known
-pub as-known : (d known : Decoded) (s t : State) (layout : Layout) (a : ByteAddress) (r : ℕ) → d ≡ known
+pub as-known : {d known : Decoded} (s : State) {t : State} (layout : Layout) (a : ByteAddress) {r : ℕ} → d ≡ known
     → (r ≡ numberOf s layout a known) × (t ≡ afterOf a known s) → (r ≡ numberOf s layout a d) × (t ≡ afterOf a d s)
-as-known d known s t layout a r is both = rw is both
+as-known s layout a is both = rw is both
 
 -- HALT and branches leave the state as it is
 pub after-halt : (a : ByteAddress) (h : ℕ) (s : State) → afterOf a (haltOf h) s ≡ s
