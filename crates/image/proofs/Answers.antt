@@ -2,13 +2,13 @@
 use mathlib.Core.Bool.{Bool, true, false, _&&_, cond}
 use mathlib.Core.Path.{_≡_, refl, sym, ap, _∙_}
 use mathlib.Core.List.{List, [], _∷_, _++_}
-use Prim.Native.Nat.{ℕ, suc, _+_, _≤_, _<_}
+use Prim.Native.Nat.{ℕ, zero, suc, _+_, _≤_, _<_}
 use native.Mathlib.Decide.{le-ind}
 use native.Mathlib.Omega.{arith}
 use borrow.Author.Tests.{eq-eqb, ne-eqb}
 use Rattle.refusals.specs.declared.refusal.Refusal.{Refusal}
 use Rattle.image.specs.Block.{codeHalfword}
-use Rattle.image.specs.Check.{Asked, firstNo, unusedZero, blockChecks, checksBelow}
+use Rattle.image.specs.Check.{Asked, firstNo, rowsBelow, unusedZero}
 use Rattle.image.specs.declared.answer.Answer.{Answer}
 use Rattle.image.specs.declared.answer.Answer.the-variants.{Pass, Refused}
 
@@ -66,28 +66,34 @@ left-passed a b e = or-left (firstNo a) (firstNo b) (sym (first-append a b) ∙ 
 pub right-passed : (a b : List Asked) → firstNo (a ++ b) ≡ Pass → firstNo b ≡ Pass
 right-passed a b e = or-right (firstNo a) (firstNo b) (sym (first-append a b) ∙ e)
 
-module _ (file : List ℕ) where
-  -- the blocks before k have passed: with block k goes the answer on
-  pub next : (k : ℕ) (a : Answer) → firstNo (checksBelow file k) ≡ Pass → a ≡ firstNo (blockChecks file k) → firstNo (checksBelow file (suc k)) ≡ a
-  unfolding checksBelow
-  next k a e q = first-append (checksBelow file k) (blockChecks file k) ∙ ap (λ (b : Answer). orElse b (firstNo (blockChecks file k))) e ∙ sym q
+-- rows of checks
+module _ (row : ℕ → List Asked) where
+  -- the rows before row n have passed: it decides
+  pub next : (n : ℕ) → firstNo (rowsBelow row n) ≡ Pass → firstNo (rowsBelow row (suc n)) ≡ firstNo (row n)
+  unfolding rowsBelow
+  next n e = first-append (rowsBelow row n) (row n) ∙ ap (λ (a : Answer). orElse a (firstNo (row n))) e
 
   -- a refusal stands
-  pub stands : (k n : ℕ) (r : Refusal) → k ≤ n → firstNo (checksBelow file k) ≡ Refused r → firstNo (checksBelow file n) ≡ Refused r
-  unfolding checksBelow
+  pub stands : (k n : ℕ) (r : Refusal) → k ≤ n → firstNo (rowsBelow row k) ≡ Refused r → firstNo (rowsBelow row n) ≡ Refused r
+  unfolding rowsBelow
   stands k n r h e =
-      le-ind (λ (m : ℕ). firstNo (checksBelow file m) ≡ Refused r) e
-      (λ m _ ih. first-append (checksBelow file m) (blockChecks file m) ∙ ap (λ (a : Answer). orElse a (firstNo (blockChecks file m))) ih)
+      le-ind (λ (m : ℕ). firstNo (rowsBelow row m) ≡ Refused r) e
+      (λ m _ ih. first-append (rowsBelow row m) (row m) ∙ ap (λ (a : Answer). orElse a (firstNo (row m))) ih)
       n h
 
-  -- where all blocks pass, each does
-  pub each-passed : (k n : ℕ) → k < n → firstNo (checksBelow file n) ≡ Pass → firstNo (blockChecks file k) ≡ Pass
-  unfolding checksBelow
+  -- the rows pass exactly when each does
+  pub each-passed : (k n : ℕ) → k < n → firstNo (rowsBelow row n) ≡ Pass → firstNo (row k) ≡ Pass
+  unfolding rowsBelow
   each-passed k n h =
-      le-ind (λ (m : ℕ). firstNo (checksBelow file m) ≡ Pass → firstNo (blockChecks file k) ≡ Pass)
-      (right-passed (checksBelow file k) (blockChecks file k))
-      (λ m _ ih e. ih (left-passed (checksBelow file m) (blockChecks file m) e))
+      le-ind (λ (m : ℕ). firstNo (rowsBelow row m) ≡ Pass → firstNo (row k) ≡ Pass)
+      (right-passed (rowsBelow row k) (row k))
+      (λ m _ ih e. ih (left-passed (rowsBelow row m) (row m) e))
       n h
+
+  pub all-passed : (n : ℕ) → ((k : ℕ) → k < n → firstNo (row k) ≡ Pass) → firstNo (rowsBelow row n) ≡ Pass
+  unfolding rowsBelow firstNo
+  all-passed zero each = refl
+  all-passed (suc n) each = next n (all-passed n (λ k h. each k (omega arith))) ∙ each n (omega arith)
 
 -- one unused halfword more
 module _ (block : List ℕ) (used : ℕ) where

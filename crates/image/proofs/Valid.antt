@@ -78,7 +78,7 @@ module _ (file : List ℕ) (layout : Layout) (valid : checkOf file ≡ checked.V
   valid-size = size-right file (head-passed _ _ (passed .0))
 
   pub valid-block : (k : ℕ) → k < blocksIn file → firstNo (blockChecks file k) ≡ Pass
-  valid-block k h = each-passed file k (blocksIn file) h (left-passed (checksBelow file (blocksIn file)) (whole 8 (layoutFits (layoutOf file)) ∷ []) (tail-passed _ _ (passed .0)))
+  valid-block k h = each-passed (blockChecks file) k (blocksIn file) h (left-passed (checksBelow file (blocksIn file)) (whole 8 (layoutFits (layoutOf file)) ∷ []) (tail-passed _ _ (passed .0)))
 
   pub valid-fits : layoutFits layout ≡ true
   valid-fits =

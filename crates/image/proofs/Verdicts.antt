@@ -92,7 +92,7 @@ module _ (file block first : List ℕ) (k blocks : ℕ) (b : block ≡ blockOf f
 -- the last block of a file whose blocks have passed, and the layout of that file
 module _ (file : List ℕ) (blocks : ℕ) (last : List ℕ) (used : ℕ) where
   pub last-used-most : blocks ≡ blocksIn file → 1 ≤ blocks → firstNo (checksBelow file blocks) ≡ Pass → last ≡ blockOf file (blocks - 1) → used ≡ usedOf last → used ≤ blockCode
-  last-used-most n h e b u = rw (u, b) (used-in-block file (blocks - 1) (each-passed file (blocks - 1) blocks (omega arith) e))
+  last-used-most n h e b u = rw (u, b) (used-in-block file (blocks - 1) (each-passed (blockChecks file) (blocks - 1) blocks (omega arith) e))
 
   pub layout-is : (first : List ℕ) (c w l : ℕ) → c ≡ 2 * (blockCode * (blocks - 1) + used) → blocks ≡ blocksIn file → last ≡ blockOf file (blocks - 1) → first ≡ blockOf file 0
       → used ≡ usedOf last → w ≡ windowStartOf first → l ≡ windowLengthOf first

@@ -33,6 +33,11 @@ unfoldable pub firstNo : List Asked → Answer
 firstNo [] = Pass
 firstNo (q ∷ qs) = cond (q .passed) (firstNo qs) (Refused (q .otherwise))
 
+-- rows 0 to n - 1 of checks, one after the other: a row is what is put to one block, or to one instruction
+unfoldable pub rowsBelow : (ℕ → List Asked) → ℕ → List Asked
+rowsBelow row zero = []
+rowsBelow row (suc n) = rowsBelow row n ++ row n
+
 -- 2: the file is 1 to 64 whole blocks long
 unfoldable pub check2 : List ℕ → Bool
 check2 file = eqb (length file % blockBytes) 0 && leb blockBytes (length file) && leb (length file) mostBytes
@@ -81,9 +86,8 @@ blockChecks file k =
     ∷ inBlock 7 k (check7 (blockOf file 0) (blockOf file k))
     ∷ []
 
-unfoldable pub checksBelow : List ℕ → ℕ → List Asked
-checksBelow file zero = []
-checksBelow file (suc k) = checksBelow file k ++ blockChecks file k
+abbrev pub checksBelow : List ℕ → ℕ → List Asked
+checksBelow file = rowsBelow (blockChecks file)
 
 -- c, w and l as an accepted file says them
 unfoldable pub layoutOf : List ℕ → Layout

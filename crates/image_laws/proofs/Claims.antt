@@ -10,7 +10,7 @@ use Rattle.units.specs.Bytes.{byteOf}
 use Rattle.image.specs.Format.{tabulateFrom}
 use Rattle.image.specs.Block.{blockOf, sumBelow}
 use Rattle.image.specs.Code.{codeAt, codeLength, codeOf}
-use Rattle.image.specs.Check.{firstNo, check2, check3, check4, check5, check6, check7, check8, unusedZero, checksBelow, layoutOf, checkOf}
+use Rattle.image.specs.Check.{firstNo, check2, check3, check4, check5, check6, check7, check8, unusedZero, rowsBelow, layoutOf, checkOf}
 use Rattle.packer.specs.Pack.{bodyHalfword, balanceOf, imageHalfword, imageOf, check15, check16, blocksNeeded, packChecks, packedAs, packOf, outputAs, outputOf}
 use Rattle.image.specs.declared.answer.Answer.{Answer}
 use Rattle.image.specs.declared.answer.Answer.the-variants.{Pass, Refused}
@@ -51,5 +51,5 @@ check-then-pack file c w l out bytes valid same =
     (done, ap (λ (a : Packed). outputAs a (imageOf (codeOf file) w l) out) done ∙ image-again file (layout c w l) valid bytes)
 
 pub worked-example : WorkedExample
-unfolding tabulateFrom sumBelow bodyHalfword balanceOf imageHalfword byteOf imageOf blockOf codeAt codeLength codeOf firstNo check2 check3 check4 check5 check6 check7 check8 unusedZero checksBelow layoutOf checkOf
+unfolding tabulateFrom sumBelow bodyHalfword balanceOf imageHalfword byteOf imageOf blockOf codeAt codeLength codeOf firstNo check2 check3 check4 check5 check6 check7 check8 unusedZero rowsBelow layoutOf checkOf
 worked-example = (refl, refl, refl, refl)

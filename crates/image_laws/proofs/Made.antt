@@ -2,8 +2,8 @@
 use mathlib.Core.Bool.{true, _&&_}
 use mathlib.Core.Logic.{⊎-elim}
 use mathlib.Core.Path.{_≡_, refl, sym, ap, ap₂, _∙_}
-use mathlib.Core.List.{List, [], _∷_, _++_}
-use Prim.Native.Nat.{ℕ, zero, suc, _+_, _-_, _*_, _/_, _%_, _≤_, _<_}
+use mathlib.Core.List.{List, []}
+use Prim.Native.Nat.{ℕ, _+_, _-_, _*_, _/_, _%_, _≤_, _<_}
 use native.Mathlib.Nat.{eq-or-lt-of-le}
 use native.Mathlib.Omega.{arith}
 use borrow.Author.Tests.{eq-eqb, ne-eqb, le-leb, le-ltb}
@@ -16,13 +16,13 @@ use Rattle.units.specs.Address.{wrap}
 use Rattle.image.specs.Format.{blockHalfwords, blockCode, headerHalfwords, mostCode}
 use Rattle.image.specs.Block.{blocksIn, blockOf, halfword, usedOf, codeHalfword, sumBelow, sumOf}
 use Rattle.image.specs.Code.{codeAt, codeLength, codeOf}
-use Rattle.image.specs.Check.{whole, firstNo, check2, check3, check4, check5, check6, check7, check8, usedRight, unusedZero, blockChecks, checksBelow, layoutOf, layoutFits, checkedAs, checkOf}
+use Rattle.image.specs.Check.{firstNo, check2, check3, check4, check5, check6, check7, check8, usedRight, unusedZero, blockChecks, checksBelow, layoutOf, checkedAs, checkOf}
 use Rattle.packer.specs.Pack.{blocksNeeded, usedIn, bodyHalfword, balanceOf, imageHalfword, imageOf}
-use Rattle.image.specs.declared.answer.Answer.{Answer}
 use Rattle.image.specs.declared.answer.Answer.the-variants.{Pass}
 use Rattle.image.specs.declared.checker.Checked.the-variants.{Valid}
 use Rattle.image.proofs.Blocks.{block-halfword}
-use Rattle.image.proofs.Answers.{orElse, first-append, passed-head, next}
+use Rattle.image.proofs.Answers.{passed-head, all-passed}
+use Rattle.image.proofs.Verdicts.{rest8}
 use Rattle.packer.proofs.Images.{image-length, image-low, image-high, body-at, balance-at, sum-less}
 use Rattle.image.proofs.Valid.{code-length, code-halfword}
 use Rattle.image_laws.specs.Claims.{layout}
@@ -123,11 +123,6 @@ module _ (code : List ℕ) (w l : ℕ) where
         ∙ passed-head _ _ (ap₂ _&&_ (eq-eqb _ _ (start-at k hk ∙ sym (start-at 0 (omega arith)))) (eq-eqb _ _ (window-at k hk ∙ sym (window-at 0 (omega arith)))))
         ∙ empty
 
-    blocks-pass : (k : ℕ) → k ≤ blocksNeeded (length code) → firstNo (checksBelow (imageOf code w l) k) ≡ Pass
-    unfolding checksBelow
-    blocks-pass zero h = empty
-    blocks-pass (suc k) h = next (imageOf code w l) k Pass (blocks-pass k (omega arith)) (sym (block-passes k (omega arith)))
-
     length-again : codeLength (imageOf code w l) ≡ length code
     unfolding codeLength
     length-again = rw blocks-in (ap (λ (u : ℕ). 249 * (blocksNeeded (length code) - 1) + u) (used-at (blocksNeeded (length code) - 1) (omega arith)) ∙ omega arith)
@@ -152,15 +147,8 @@ module _ (code : List ℕ) (w l : ℕ) where
     layout-again = simp (length-again, start-at 0 (omega arith), window-at 0 (omega arith))
 
     pub accepted : check8 (2 * length code) w l ≡ true → checkOf (imageOf code w l) ≡ Valid (layout (2 * length code) w l)
-    unfolding checkOf
     accepted fits =
         let image : List ℕ = imageOf code w l in
-        let blocks : firstNo (checksBelow (imageOf code w l) (blocksIn (imageOf code w l))) ≡ Pass = rw blocks-in (blocks-pass (blocksNeeded (length code)) (omega arith)) in
-        let last = ap layoutFits layout-again ∙ fits in
-        ap (checkedAs (layoutOf image))
-        (passed-head (whole 2 (check2 image)) (checksBelow image (blocksIn image) ++ (whole 8 (layoutFits (layoutOf image)) ∷ [])) passes2
-        ∙ first-append (checksBelow image (blocksIn image)) (whole 8 (layoutFits (layoutOf image)) ∷ [])
-        ∙ ap (λ (a : Answer). orElse a (firstNo (whole 8 (layoutFits (layoutOf image)) ∷ []))) blocks
-        ∙ passed-head (whole 8 (layoutFits (layoutOf image))) [] last
-        ∙ empty)
-        ∙ ap Valid layout-again
+        let blocks : firstNo (checksBelow image (blocksIn image)) ≡ Pass
+        = all-passed (blockChecks image) (blocksIn image) (λ k h. block-passes k (rw blocks-in at h)) in
+        sym (rest8 image passes2 (layout (2 * length code) w l) _ blocks (sym layout-again) (sym (ap (checkedAs (layout (2 * length code) w l)) (passed-head _ [] fits ∙ empty))))

@@ -9,13 +9,13 @@ use Rattle.cpu.specs.Step.{completed, executeOf, executeDecoded, fetched, stepO
 use Rattle.cpu_laws.proofs.Steps.{step-decoded}
 use Rattle.cpu.specs.Machine.{pc}
 use Rattle.image.specs.Block.{blockOf, sumBelow}
-use Rattle.image.specs.Check.{firstNo, check2, check3, check4, check5, unusedZero, check6, check7, check8, checksBelow, layoutOf, checkOf}
+use Rattle.image.specs.Check.{firstNo, check2, check3, check4, check5, unusedZero, check6, check7, check8, rowsBelow, layoutOf, checkOf}
 use Rattle.image.specs.Code.{codeAt, codeLength, codeOf}
 use Rattle.image.specs.Format.{tabulateFrom}
 use Rattle.packer.specs.Pack.{bodyHalfword, balanceOf, imageHalfword, imageOf}
 use Rattle.domain.specs.Value.{intervalOf, addOf, andOf, eorOf}
 use Rattle.verifier.specs.Targets.{decodedAt, goesTo, targetedBelow, targeted}
-use Rattle.verifier.specs.Verify.{entering, codeChecks, verdictBelow, verifyCode, verifyOf}
+use Rattle.verifier.specs.Verify.{entering, verifyCode, verifyOf}
 use lib.Count.{leadingZeros, trailingZeros}
 use Rattle.table_laws.specs.Table.{StandsOn, Gives, StarredRows}
 
@@ -28,7 +28,7 @@ gives : (h : ℕ) (before after : Machine) → pc before % 2 ≡ 0 → ((memory 
 gives h before after even done memory on = step-on h before memory even on ∙ done memory
 
 pub starred-rows : StarredRows
-unfolding executeOf addHighOf addPcOf asrOf cmpImmOf negOf blockOf sumBelow firstNo check2 check3 check4 check5 unusedZero check6 check7 check8 checksBelow layoutOf checkOf codeAt codeLength codeOf tabulateFrom bodyHalfword balanceOf imageHalfword byteOf imageOf intervalOf addOf andOf eorOf decodedAt goesTo targetedBelow targeted entering codeChecks verdictBelow verifyCode verifyOf leadingZeros trailingZeros
+unfolding executeOf addHighOf addPcOf asrOf cmpImmOf negOf blockOf sumBelow firstNo check2 check3 check4 check5 unusedZero check6 check7 check8 rowsBelow layoutOf checkOf codeAt codeLength codeOf tabulateFrom bodyHalfword balanceOf imageHalfword byteOf imageOf intervalOf addOf andOf eorOf decodedAt goesTo targetedBelow targeted entering verifyCode verifyOf leadingZeros trailingZeros
 starred-rows =
     record {
       row-0000 = (refl, step-on 0x0000);

@@ -2,8 +2,7 @@
 use mathlib.Core.Bool.{Bool, cond, true, false}
 use mathlib.Core.List.{List}
 use mathlib.Core.Path.{_≡_, refl, sym, ap, _∙_}
-use Prim.Native.Nat.{ℕ, zero, suc, _≤_, _<_}
-use native.Mathlib.Decide.{le-ind}
+use Prim.Native.Nat.{ℕ, zero, suc, _<_}
 use lib.Dec.{eqb, ltb}
 use lib.ListN.{length, getD, set, length-set}
 use Rattle.units.specs.Field.{field}
@@ -16,17 +15,16 @@ use Rattle.isa.specs.declared.decoder.Decoded.the-variants.{Defined, Undefined}
 use Rattle.isa.specs.declared.instruction.Instruction.{Instruction}
 use Rattle.isa.specs.declared.instruction.Instruction.the-variants.{MovImm, CmpImm, And, Eor, Asr, Tst, Neg, Cmp, AddHigh, CmpHigh, MovHigh, Str, Ldr, Strb, Ldrb, AddPc, Branch, Halt}
 use Rattle.image.specs.Check.{firstNo}
-use Rattle.image.specs.declared.answer.Answer.{Answer}
 use Rattle.image.specs.declared.answer.Answer.the-variants as answer
 use Rattle.image.specs.declared.checker.Layout.{Layout}
-use Rattle.image.proofs.Answers.{orElse, first-append}
+use Rattle.image.proofs.Answers.{next, stands}
 use Rattle.domain.specs.declared.value.Value.{Value}
 use Rattle.domain.specs.Value.{exactlyOf}
 use Rattle.verifier.specs.State.{State, unknownState, standingAt, transferOf, afterOf}
 use Rattle.verifier.specs.Targets.{addressOf, decodedAt, targeted}
 use Rattle.verifier.specs.Numbers.{numberOf}
 use Rattle.verifier.specs.Questions.{halfwordChecks, answerAt}
-use Rattle.verifier.specs.Verify.{entering, valuesAt, checksAt, codeChecks, verdictBelow, verdictAs, verifyCode}
+use Rattle.verifier.specs.Verify.{entering, valuesAt, checksAt, codeChecks, verdictAs, verifyCode}
 use Rattle.verifier.specs.declared.verifier.Verdict.the-variants.{Fit, Refused}
 
 -- ---- the state
@@ -61,9 +59,9 @@ length-after a (Defined i) s = length-transfer a i s
 length-after a Undefined s = refl
 
 -- a halfword whose meaning is known
-pub as-known : (d known : Decoded) (s t : State) (layout : Layout) (a : ByteAddress) (r : ℕ) → d ≡ known
+pub as-known : {d known : Decoded} (s : State) {t : State} (layout : Layout) (a : ByteAddress) {r : ℕ} → d ≡ known
     → (r ≡ numberOf s layout a known) × (t ≡ afterOf a known s) → (r ≡ numberOf s layout a d) × (t ≡ afterOf a d s)
-as-known d known s t layout a r is both = rw is both
+as-known s layout a is both = rw is both
 
 -- HALT and branches leave the state as it is
 pub after-halt : (a : ByteAddress) (h : ℕ) (s : State) → afterOf a (haltOf h) s ≡ s
@@ -102,26 +100,13 @@ answer-refused a zero ne = absurd (ne refl)
 answer-refused a (suc n) ne = refl
 
 module _ (code : List ℕ) (layout : Layout) where
-  -- one more instruction
-  pub next : (n : ℕ) → verdictBelow code layout n ≡ answer.Pass → verdictBelow code layout (suc n) ≡ firstNo (checksAt code layout n)
-  unfolding verdictBelow codeChecks
-  next n e =
-      first-append (codeChecks code layout n) (checksAt code layout n) ∙ ap (λ (a : Answer). orElse a (firstNo (checksAt code layout n))) e
-
-  -- a refusal stands
-  pub stands : (n m : ℕ) (r : Refusal) → n ≤ m → verdictBelow code layout n ≡ answer.Refused r → verdictBelow code layout m ≡ answer.Refused r
-  unfolding verdictBelow codeChecks
-  stands n m r h e =
-      le-ind (λ (k : ℕ). verdictBelow code layout k ≡ answer.Refused r) e
-      (λ k b ih. first-append (codeChecks code layout k) (checksAt code layout k) ∙ ap (λ (a : Answer). orElse a (firstNo (checksAt code layout k))) ih)
-      m h
-
-  pub refusal : (n : ℕ) (r : Refusal) → n < length code → verdictBelow code layout n ≡ answer.Pass
+  -- the first instruction that does not pass decides
+  pub refusal : (n : ℕ) (r : Refusal) → n < length code → firstNo (codeChecks code layout n) ≡ answer.Pass
       → firstNo (checksAt code layout n) ≡ answer.Refused r → Refused r ≡ verifyCode code layout
   unfolding verifyCode
-  refusal n r h e q = sym (ap (verdictAs layout) (stands (suc n) (length code) r h (next n e ∙ q)))
+  refusal n r h e q = sym (ap (verdictAs layout) (stands (checksAt code layout) (suc n) (length code) r h (next (checksAt code layout) n e ∙ q)))
 
-  pub fit : verdictBelow code layout (length code) ≡ answer.Pass → Fit layout ≡ verifyCode code layout
+  pub fit : firstNo (codeChecks code layout (length code)) ≡ answer.Pass → Fit layout ≡ verifyCode code layout
   unfolding verifyCode
   fit e = sym (ap (verdictAs layout) e)
 

@@ -1,10 +1,10 @@
 -- The verifier's walk over a code, and its verdict on a file ("Facts the judge carries", "The questions").
 use mathlib.Core.Bool.{cond}
-use mathlib.Core.List.{List, [], _++_}
+use mathlib.Core.List.{List}
 use Prim.Native.Nat.{ℕ, zero, suc}
 use lib.Dec.{eqb}
 use lib.ListN.{length, getD}
-use Rattle.image.specs.Check.{Asked, firstNo, checkOf}
+use Rattle.image.specs.Check.{Asked, firstNo, rowsBelow, checkOf}
 use Rattle.image.specs.Code.{codeOf}
 use Rattle.image.specs.declared.answer.Answer.{Answer}
 use Rattle.image.specs.declared.answer.Answer.the-variants as answer
@@ -36,13 +36,8 @@ checksAt code layout i =
     halfwordChecks (valuesAt code i) layout (addressOf i) (eqb (suc i) (length code)) (getD code i 0) (decodedAt code i)
 
 -- what is put to the first n instructions, lowest address first
-unfoldable pub codeChecks : List ℕ → Layout → ℕ → List Asked
-codeChecks code layout zero = []
-codeChecks code layout (suc i) = codeChecks code layout i ++ checksAt code layout i
-
--- what that comes to
-unfoldable pub verdictBelow : List ℕ → Layout → ℕ → Answer
-verdictBelow code layout n = firstNo (codeChecks code layout n)
+abbrev pub codeChecks : List ℕ → Layout → ℕ → List Asked
+codeChecks code layout = rowsBelow (checksAt code layout)
 
 abbrev pub verdictAs : Layout → Answer → Verdict
 verdictAs layout answer.Pass = Fit layout
@@ -50,7 +45,7 @@ verdictAs layout (answer.Refused r) = Refused r
 
 -- checks 9 to 14 of a code with a layout; a pass answers the layout: c, w and l
 unfoldable pub verifyCode : List ℕ → Layout → Verdict
-verifyCode code layout = verdictAs layout (verdictBelow code layout (length code))
+verifyCode code layout = verdictAs layout (firstNo (codeChecks code layout (length code)))
 
 abbrev pub verifyChecked : List ℕ → Checked → Verdict
 verifyChecked file (checked.Valid layout) = verifyCode (codeOf file) layout

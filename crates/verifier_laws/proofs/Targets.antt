@@ -3,7 +3,7 @@ use mathlib.Core.Bool.{Bool, true, false, cond, _||_, or-true}
 use mathlib.Core.List.{List}
 use mathlib.Core.Path.{_≡_, refl, ap, _∙_}
 use Prim.Native.Nat.{ℕ, zero, suc, _<_}
-use native.Mathlib.Decide.{ℕ-discrete}
+use native.Mathlib.Decide.{le-ind}
 use native.Mathlib.Omega.{arith}
 use lib.ListN.{length}
 use Rattle.isa.specs.declared.decoder.Decoded.{Decoded}
@@ -18,12 +18,7 @@ use Rattle.verifier_laws.specs.Claims.{TargetsExactly, ForgetsAtTargets}
 module _ (code : List ℕ) (j : ℕ) where
   reached-below : (n k : ℕ) → k < n → goesTo code k j ≡ true → targetedBelow code n j ≡ true
   unfolding targetedBelow
-  reached-below zero k h e = absurd (omega arith)
-  reached-below (suc n) k h e = go (ℕ-discrete k n) (λ b. reached-below n k b e)
-    where
-      go : Dec (k ≡ n) → (k < n → targetedBelow code n j ≡ true) → (goesTo code n j || targetedBelow code n j) ≡ true
-      go (yes q) rest = rw (← q, e) refl
-      go (no q) rest = rw (rest (omega arith)) (or-true (goesTo code n j))
+  reached-below n k h e = le-ind (λ (m : ℕ). targetedBelow code m j ≡ true) (rw e refl) (λ m _ ih. rw ih (or-true (goesTo code m j))) n h
 
   below-reached : (n : ℕ) → targetedBelow code n j ≡ true → (k : ℕ) × (k < n) × (goesTo code k j ≡ true)
   unfolding targetedBelow

@@ -3,29 +3,43 @@ use mathlib.Core.List.{List}
 use mathlib.Core.Logic.{_⊎_, inl, inr}
 use mathlib.Core.Path.{_≡_, refl, sym, ap, _∙_}
 use Prim.Native.Nat.{ℕ, zero, suc, _<_}
-use native.Mathlib.Decide.{ℕ-discrete}
-use native.Mathlib.Nat.{le-refl}
 use native.Mathlib.Omega.{arith}
 use lib.Dec.{eqb}
 use lib.ListN.{length, getD}
 use Rattle.refusals.specs.declared.refusal.Refusal.{Refusal}
 use Rattle.isa.specs.declared.decoder.Decoded.{Decoded}
 use Rattle.isa.specs.declared.decoder.Decoded.the-variants.{Defined, Undefined}
-use Rattle.image.specs.Check.{firstNo, checkOf}
+use Rattle.image.specs.Check.{Asked, firstNo, rowsBelow, checkOf}
 use Rattle.image.specs.Code.{codeOf}
 use Rattle.image.specs.declared.answer.Answer.{Answer}
 use Rattle.image.specs.declared.answer.Answer.the-variants as answer
 use Rattle.image.specs.declared.checker.Checked.{Checked}
 use Rattle.image.specs.declared.checker.Checked.the-variants as checked
 use Rattle.image.specs.declared.checker.Layout.{Layout}
-use Rattle.image.proofs.Answers.{head-passed, tail-passed, left-passed, right-passed}
+use Rattle.image.proofs.Answers.{head-passed, tail-passed, next, stands, each-passed, all-passed}
 use Rattle.verifier.specs.Targets.{addressOf, decodedAt}
 use Rattle.verifier.specs.Questions.{halfwordChecks}
-use Rattle.verifier.specs.Verify.{valuesAt, checksAt, codeChecks, verdictBelow, verdictAs, verifyCode, verifyChecked, verifyOf}
+use Rattle.verifier.specs.Verify.{valuesAt, checksAt, codeChecks, verdictAs, verifyCode, verifyChecked, verifyOf}
 use Rattle.verifier.specs.declared.verifier.Verdict.the-variants.{Fit, Refused}
-use Rattle.verifier.proofs.Walk.{next, stands, refusal, fit}
+use Rattle.verifier.proofs.Walk.{refusal, fit}
 use Rattle.verifier_laws.specs.Passes.{Passes}
 use Rattle.verifier_laws.specs.Claims.{PassesExactly, RefusedInCode, RefusesExactly}
+
+-- where rows of checks are refused, there is a first row that is
+module _ (row : ℕ → List Asked) (r : Refusal) where
+  abbrev FirstBelow : ℕ → Type 0
+  FirstBelow n = (i : ℕ) × (i < n) × (firstNo (rowsBelow row i) ≡ answer.Pass) × (firstNo (row i) ≡ answer.Refused r)
+
+  first-no : (n : ℕ) → firstNo (rowsBelow row n) ≡ answer.Refused r → FirstBelow n
+  unfolding rowsBelow firstNo
+  first-no zero e = let z : _≡_ {A = ℕ} 0 1 = cc in absurd (omega arith)
+  first-no (suc n) e = go (firstNo (rowsBelow row n)) refl (first-no n)
+    where
+      go : (a : Answer) → firstNo (rowsBelow row n) ≡ a → (firstNo (rowsBelow row n) ≡ answer.Refused r → FirstBelow n) → FirstBelow (suc n)
+      go answer.Pass q rest = (n, omega arith, q, sym (next row n q) ∙ e)
+      go (answer.Refused s) q rest =
+          let t = rest (q ∙ sym (stands row n (suc n) s (omega arith) q) ∙ e) in
+          (t .0, omega (arith, t .1), t .2, t .3)
 
 module _ (code : List ℕ) (layout : Layout) where
   -- ---- one instruction
@@ -56,35 +70,11 @@ module _ (code : List ℕ) (layout : Layout) where
 
   -- ---- the code
 
-  below-passes : (n i : ℕ) → verdictBelow code layout n ≡ answer.Pass → i < n → Passes code layout i
-  unfolding verdictBelow codeChecks
-  below-passes zero i e h = absurd (omega arith)
-  below-passes (suc n) i e h = go (ℕ-discrete i n) (λ b. below-passes n i (left-passed (codeChecks code layout n) (checksAt code layout n) e) b)
-    where
-      go : Dec (i ≡ n) → (i < n → Passes code layout i) → Passes code layout i
-      go (yes q) rest = rw q (passes n (decodedAt code n) refl (right-passed (codeChecks code layout n) (checksAt code layout n) e))
-      go (no q) rest = rest (omega arith)
+  below-passes : (n i : ℕ) → firstNo (codeChecks code layout n) ≡ answer.Pass → i < n → Passes code layout i
+  below-passes n i e h = passes i (decodedAt code i) refl (each-passed (checksAt code layout) i n h e)
 
-  below-pass : (n : ℕ) → ((i : ℕ) → i < n → Passes code layout i) → verdictBelow code layout n ≡ answer.Pass
-  unfolding verdictBelow codeChecks firstNo
-  below-pass zero all = refl
-  below-pass (suc n) all =
-      next code layout n (below-pass n (λ i h. all i (omega arith))) ∙ checks-pass n (all n (le-refl (suc n)))
-
-  -- the first instruction of those that does not pass, where one does not
-  first-no : (n : ℕ) (r : Refusal) → verdictBelow code layout n ≡ answer.Refused r
-      → (i : ℕ) × (i < n) × ((k : ℕ) → k < i → Passes code layout k) × (firstNo (checksAt code layout i) ≡ answer.Refused r)
-  unfolding verdictBelow codeChecks firstNo
-  first-no zero r e = let z : _≡_ {A = ℕ} 0 1 = cc in absurd (omega arith)
-  first-no (suc n) r e = go (verdictBelow code layout n) refl (first-no n r)
-    where
-      go : (a : Answer) → verdictBelow code layout n ≡ a
-          → (verdictBelow code layout n ≡ answer.Refused r → (i : ℕ) × (i < n) × ((k : ℕ) → k < i → Passes code layout k) × (firstNo (checksAt code layout i) ≡ answer.Refused r))
-          → (i : ℕ) × (i < suc n) × ((k : ℕ) → k < i → Passes code layout k) × (firstNo (checksAt code layout i) ≡ answer.Refused r)
-      go answer.Pass q rest = (n, omega arith, λ k h. below-passes n k q h, sym (next code layout n q) ∙ e)
-      go (answer.Refused s) q rest =
-          let t = rest (q ∙ sym (stands code layout n (suc n) s (omega arith) q) ∙ e) in
-          (t .0, omega (arith, t .1), t .2, t .3)
+  below-pass : (n : ℕ) → ((i : ℕ) → i < n → Passes code layout i) → firstNo (codeChecks code layout n) ≡ answer.Pass
+  below-pass n all = all-passed (checksAt code layout) n (λ i h. checks-pass i (all i h))
 
   -- ---- the verdict on the code
 
@@ -96,13 +86,13 @@ module _ (code : List ℕ) (layout : Layout) where
   refused-answer r answer.Pass e = let z : _≡_ {A = ℕ} 0 1 = cc in absurd (omega arith)
   refused-answer r (answer.Refused s) e = cc
 
-  code-fit : (said : Layout) → verifyCode code layout ≡ Fit said → (verdictBelow code layout (length code) ≡ answer.Pass) × (layout ≡ said)
+  code-fit : (said : Layout) → verifyCode code layout ≡ Fit said → (firstNo (codeChecks code layout (length code)) ≡ answer.Pass) × (layout ≡ said)
   unfolding verifyCode
-  code-fit said e = fit-answer said (verdictBelow code layout (length code)) e
+  code-fit said e = fit-answer said (firstNo (codeChecks code layout (length code))) e
 
-  code-refused : (r : Refusal) → verifyCode code layout ≡ Refused r → verdictBelow code layout (length code) ≡ answer.Refused r
+  code-refused : (r : Refusal) → verifyCode code layout ≡ Refused r → firstNo (codeChecks code layout (length code)) ≡ answer.Refused r
   unfolding verifyCode
-  code-refused r e = refused-answer r (verdictBelow code layout (length code)) e
+  code-refused r e = refused-answer r (firstNo (codeChecks code layout (length code))) e
 
 -- ---- the file
 
@@ -133,8 +123,8 @@ module _ (file : List ℕ) where
   -- a refused file fails one of checks 2 to 8, or has a first instruction that does not pass
   refused-first : (r : Refusal) (d : Checked) → checkOf file ≡ d → verifyChecked file d ≡ Refused r → (checkOf file ≡ checked.Refused r) ⊎ RefusedInCode file r
   refused-first r (checked.Valid layout) ok e =
-      let f = first-no (codeOf file) layout (length (codeOf file)) r (code-refused (codeOf file) layout r e) in
-      inr (record { layout = layout; accepted = ok; index = f .0; inside = f .1; before = λ k h. f .2 k (omega arith); no = f .3 })
+      let f = first-no (checksAt (codeOf file) layout) r (length (codeOf file)) (code-refused (codeOf file) layout r e) in
+      inr (record { layout = layout; accepted = ok; index = f .0; inside = f .1; before = λ k h. below-passes (codeOf file) layout (f .0) k (f .2) (omega arith); no = f .3 })
   refused-first r (checked.Refused s) ok e = let q : s ≡ r = cc in inl (ok ∙ ap checked.Refused q)
 
   first-refused : (r : Refusal) → (checkOf file ≡ checked.Refused r) ⊎ RefusedInCode file r → verifyOf file ≡ Refused r

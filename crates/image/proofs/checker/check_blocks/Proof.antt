@@ -4,7 +4,7 @@ use Prim.Native.Nat.{ℕ, suc, _-_, _≤_}
 use native.Mathlib.Numerals.{add-one}
 use native.Mathlib.Omega.{arith}
 use borrow.Author.Needs.{needs}
-use Rattle.image.specs.Check.{firstNo, checksBelow}
+use Rattle.image.specs.Check.{firstNo, rowsBelow, checksBelow}
 use Rattle.image.specs.declared.answer.Answer.the-variants.{Pass}
 use Rattle.image.proofs.Answers.{next, stands}
 use Rattle.image.proofs.checker.check_blocks.Statement.{statement}
@@ -17,16 +17,16 @@ abbrev μ-loop : tie.MeasureT-loop
 μ-loop file blocks k₀ k = blocks - k
 
 loop-holds : tie.Need-loop-holds Inv-loop μ-loop
-unfolding firstNo checksBelow
+unfolding firstNo rowsBelow
 loop-holds c = (search needs, refl)
 
 returns : tie.Need-returns Inv-loop μ-loop
 returns c =
-    let k = c .before .before .before .before .before .loop .k in
-    sym (stands _ (suc k) _ _ (omega arith) (next _ k _ (c .before .before .before .before .before .loop .inv .1) (sym (c .before .answer .given .1) ∙ c .before .before .before .check-block .ensures)))
+    let loop = c .before .before .before .before .before .loop in
+    sym (stands _ (suc (loop .k)) _ _ (omega arith) (next _ _ (loop .inv .1) ∙ sym (c .before .before .before .check-block .ensures) ∙ c .before .answer .given .1))
 
 loop-again : tie.Need-loop-again Inv-loop μ-loop
-loop-again c = (search needs, rw add-one (next _ _ _ (c .before .before .before .before .loop .inv .1) (sym (c .enum-told .given .1) ∙ c .before .before .check-block .ensures)))
+loop-again c = (search needs, rw add-one (next _ _ (c .before .before .before .before .loop .inv .1) ∙ sym (c .before .before .check-block .ensures) ∙ c .enum-told .given .1))
 
 returns-2 : tie.Need-returns-2 Inv-loop μ-loop
 returns-2 c =

@@ -10,20 +10,21 @@ use borrow.Author.Needs.{needs}
 use lib.Dec.{eqb}
 use lib.ListN.{length, getD, replicate}
 use Rattle.units.specs.declared.address.ByteAddress.{ByteAddress}
-use Rattle.image.specs.Check.{firstNo}
+use Rattle.image.specs.Check.{firstNo, rowsBelow}
 use Rattle.image.specs.Code.{codePosition, codeOf}
 use Rattle.image.specs.declared.answer.Answer.the-variants.{Pass}
 use Rattle.image.specs.declared.checker.Layout.{Layout}
+use Rattle.image.proofs.Answers.{next}
 use Rattle.image.proofs.Valid.{valid-code}
 use Rattle.verifier.specs.Position.{positionAfter}
 use Rattle.verifier.specs.State.{State, unknownState}
 use Rattle.verifier.specs.Words.{stateOf}
 use Rattle.verifier.specs.Targets.{targeted}
 use Rattle.verifier.specs.Questions.{answerAt}
-use Rattle.verifier.specs.Verify.{entering, valuesAt, checksAt, codeChecks, verdictBelow}
+use Rattle.verifier.specs.Verify.{entering, valuesAt, checksAt, codeChecks}
 use Rattle.verifier.proofs.Accepted.{count-is, position-inside, position-small, halfword-is}
 use Rattle.verifier.proofs.Position.{position-next}
-use Rattle.verifier.proofs.Walk.{arrives, length-values, answer-refused, next, refusal, fit, checked, left}
+use Rattle.verifier.proofs.Walk.{arrives, length-values, answer-refused, refusal, fit, checked, left}
 use Rattle.verifier.proofs.Words.{length-state, state-replicate}
 use Rattle.verifier.proofs.verifier.walk.Statement.{statement}
 use Rattle.verifier.proofs.verifier.walk.Tie as tie
@@ -31,7 +32,7 @@ use Rattle.verifier.proofs.verifier.walk.Tie as tie
 abbrev Inv-loop : tie.InvT-loop
 Inv-loop file layout count marks unknown state₀ i₀ position₀ state i position =
     (i .0 ≤ count .0) × (position ≡ codePosition (i .0)) × (stateOf state ≡ entering (codeOf file) (i .0))
-    × (verdictBelow (codeOf file) layout (i .0) ≡ Pass)
+    × (firstNo (codeChecks (codeOf file) layout (i .0)) ≡ Pass)
 
 abbrev μ-loop : tie.MeasureT-loop
 μ-loop file layout count marks unknown state₀ i₀ position₀ state i position = count .0 - i .0
@@ -47,7 +48,7 @@ unknown-is : (c : tie.After-word-of Inv-loop μ-loop) → stateOf (replicate 16 
 unknown-is c = state-replicate 16 (c .word-of .result) ∙ ap (replicate 16) (c .word-of .ensures ∙ c .before .unknown .ensures)
 
 loop-holds : tie.Need-loop-holds Inv-loop μ-loop
-unfolding entering verdictBelow codeChecks firstNo
+unfolding entering rowsBelow firstNo
 loop-holds c = (search needs, refl, unknown-is c, refl)
 
 -- the places before a turn: the loop's head, the function's entry, and the count of turns
@@ -179,7 +180,7 @@ loop-again c =
       rw add-one (p .position-after .ensures ∙ ap positionAfter (i .1) ∙ position-next _),
       rw add-one (left (code t) (layout t) (number t) (read f .halfword-at .result) (address x) (state x)
           (x .before .before .before .before .before .before .byte-address .ensures) (found (read f)) (values-are x) _ (f .first-no .ensures .1)),
-      rw add-one (next _ _ _ (i .3) ∙ checks-are f ∙ ap (answerAt (address x)) (p .before .if3 .left)),
+      rw add-one (next _ _ (i .3) ∙ checks-are f ∙ ap (answerAt (address x)) (p .before .if3 .left)),
     )
 
 returns-2 : tie.Need-returns-2 Inv-loop μ-loop

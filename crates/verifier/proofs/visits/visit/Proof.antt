@@ -3,9 +3,6 @@ use mathlib.Core.Path.{_≡_, refl, sym, _∙_}
 use native.Mathlib.Omega.{arith}
 use lib.Dec.{lit<}
 use Rattle.units.specs.Field.{field}
-use Rattle.isa.specs.Decode.{haltOf, registersOf, branchOf, decodeOf}
-use Rattle.isa.specs.declared.decoder.Decoded.the-variants.{Defined, Undefined}
-use Rattle.isa.specs.declared.instruction.Instruction.the-variants.{MovImm, CmpImm, Str, Ldr, Strb, Ldrb, AddPc, Branch}
 use Rattle.isa.proofs.Formats.{is-halt, is-imm, is-registers, is-memory, is-add-pc, is-lower-branch, is-upper-branch, is-none}
 use Rattle.verifier.proofs.Walk.{as-known, after-halt, after-branch}
 use borrow.Author.Needs.{needs}
@@ -16,7 +13,7 @@ returns : tie.Need-returns
 returns c =
     let m = c .before .before .before in
     let e : field (m .args .h) 11 5 ≡ 0 = omega (arith, c .before .before .bits .ensures) in
-    as-known (decodeOf (m .args .h)) (haltOf (m .args .h)) _ _ (m .args .layout) (m .args .a) _ (is-halt (m .args .h) (search needs) e) (
+    as-known _ (m .args .layout) (m .args .a) (is-halt (m .args .h) (search needs) e) (
       c .visit-halt .ensures _ (m .args .layout) (m .args .a),
       sym (after-halt (m .args .a) (m .args .h) _),
     )
@@ -25,7 +22,7 @@ returns-2 : tie.Need-returns-2
 returns-2 c =
     let m = c .before .before .before .before in
     let e : field (m .args .h) 11 5 ≡ 4 = omega (arith, c .before .before .before .bits .ensures) in
-    as-known (decodeOf (m .args .h)) (Defined (MovImm (field (m .args .h) 8 3) (field (m .args .h) 0 8))) _ _ (m .args .layout) (m .args .a) _ (is-imm (m .args .h) (search needs) 0 (lit< tt) e) (
+    as-known _ (m .args .layout) (m .args .a) (is-imm (m .args .h) (search needs) 0 (lit< tt) e) (
       refl,
       c .move-imm .ensures,
     )
@@ -34,7 +31,7 @@ returns-3 : tie.Need-returns-3
 returns-3 c =
     let m = c .before .before in
     let e : field (m .args .h) 11 5 ≡ 5 = omega (arith, c .before .bits .ensures) in
-    as-known (decodeOf (m .args .h)) (Defined (CmpImm (field (m .args .h) 8 3) (field (m .args .h) 0 8))) _ _ (m .args .layout) (m .args .a) _ (is-imm (m .args .h) (search needs) 1 (lit< tt) e) (
+    as-known _ (m .args .layout) (m .args .a) (is-imm (m .args .h) (search needs) 1 (lit< tt) e) (
       refl,
       refl,
     )
@@ -43,7 +40,7 @@ returns-4 : tie.Need-returns-4
 returns-4 c =
     let m = c .before .before .before .before in
     let e : field (m .args .h) 11 5 ≡ 8 = omega (arith, c .before .before .before .bits .ensures) in
-    as-known (decodeOf (m .args .h)) (registersOf (m .args .h)) _ _ (m .args .layout) (m .args .a) _ (is-registers (m .args .h) (search needs) e) (
+    as-known _ (m .args .layout) (m .args .a) (is-registers (m .args .h) (search needs) e) (
       c .visit-registers .ensures .0 _ (m .args .layout) (m .args .a),
       c .visit-registers .ensures .1 (m .args .a),
     )
@@ -52,7 +49,7 @@ returns-5 : tie.Need-returns-5
 returns-5 c =
     let m = c .before .before .before .before in
     let e : field (m .args .h) 11 5 ≡ 12 = omega (arith, c .before .before .before .bits .ensures) in
-    as-known (decodeOf (m .args .h)) (Defined (Str (field (m .args .h) 6 5) (field (m .args .h) 3 3) (field (m .args .h) 0 3))) _ _ (m .args .layout) (m .args .a) _ (is-memory (m .args .h) (search needs) 0 (lit< tt) e) (
+    as-known _ (m .args .layout) (m .args .a) (is-memory (m .args .h) (search needs) 0 (lit< tt) e) (
       c .check-halfword .ensures (m .args .a),
       refl,
     )
@@ -61,7 +58,7 @@ returns-6 : tie.Need-returns-6
 returns-6 c =
     let m = c .before .before .before .before .before .before .before in
     let e : field (m .args .h) 11 5 ≡ 13 = omega (arith, c .before .before .before .before .before .before .bits .ensures) in
-    as-known (decodeOf (m .args .h)) (Defined (Ldr (field (m .args .h) 6 5) (field (m .args .h) 3 3) (field (m .args .h) 0 3))) _ _ (m .args .layout) (m .args .a) _ (is-memory (m .args .h) (search needs) 1 (lit< tt) e) (
+    as-known _ (m .args .layout) (m .args .a) (is-memory (m .args .h) (search needs) 1 (lit< tt) e) (
       c .before .before .before .check-halfword2 .ensures (m .args .a),
       c .load .ensures ∙ simp (c .before .unknown .ensures),
     )
@@ -70,7 +67,7 @@ returns-7 : tie.Need-returns-7
 returns-7 c =
     let m = c .before .before .before .before in
     let e : field (m .args .h) 11 5 ≡ 14 = omega (arith, c .before .before .before .bits .ensures) in
-    as-known (decodeOf (m .args .h)) (Defined (Strb (field (m .args .h) 6 5) (field (m .args .h) 3 3) (field (m .args .h) 0 3))) _ _ (m .args .layout) (m .args .a) _ (is-memory (m .args .h) (search needs) 2 (lit< tt) e) (
+    as-known _ (m .args .layout) (m .args .a) (is-memory (m .args .h) (search needs) 2 (lit< tt) e) (
       c .check-byte .ensures (m .args .a),
       refl,
     )
@@ -79,7 +76,7 @@ returns-8 : tie.Need-returns-8
 returns-8 c =
     let m = c .before .before .before .before .before .before .before in
     let e : field (m .args .h) 11 5 ≡ 15 = omega (arith, c .before .before .before .before .before .before .bits .ensures) in
-    as-known (decodeOf (m .args .h)) (Defined (Ldrb (field (m .args .h) 6 5) (field (m .args .h) 3 3) (field (m .args .h) 0 3))) _ _ (m .args .layout) (m .args .a) _ (is-memory (m .args .h) (search needs) 3 (lit< tt) e) (
+    as-known _ (m .args .layout) (m .args .a) (is-memory (m .args .h) (search needs) 3 (lit< tt) e) (
       c .before .before .before .check-byte2 .ensures (m .args .a),
       c .load2 .ensures ∙ simp (c .before .byte .ensures),
     )
@@ -88,7 +85,7 @@ returns-9 : tie.Need-returns-9
 returns-9 c =
     let m = c .before .before .before .before in
     let e : field (m .args .h) 11 5 ≡ 20 = omega (arith, c .before .before .before .bits .ensures) in
-    as-known (decodeOf (m .args .h)) (Defined (AddPc (field (m .args .h) 8 3) (field (m .args .h) 0 8))) _ _ (m .args .layout) (m .args .a) _ (is-add-pc (m .args .h) (search needs) e) (
+    as-known _ (m .args .layout) (m .args .a) (is-add-pc (m .args .h) (search needs) e) (
       refl,
       c .add-pc .ensures,
     )
@@ -97,7 +94,7 @@ returns-10 : tie.Need-returns-10
 returns-10 c =
     let m = c .before .before .before .before in
     let e : field (m .args .h) 11 5 ≡ 26 = omega (arith, c .before .before .before .bits .ensures) in
-    as-known (decodeOf (m .args .h)) (Defined (Branch (field (m .args .h) 8 3) (field (m .args .h) 0 8))) _ _ (m .args .layout) (m .args .a) _ (is-lower-branch (m .args .h) (search needs) e) (
+    as-known _ (m .args .layout) (m .args .a) (is-lower-branch (m .args .h) (search needs) e) (
       c .check-branch .ensures ∙ simp (c .before .bits2 .ensures),
       refl,
     )
@@ -106,7 +103,7 @@ returns-11 : tie.Need-returns-11
 returns-11 c =
     let m = c .before .before .before in
     let e : field (m .args .h) 11 5 ≡ 27 = omega (arith, c .before .before .bits .ensures) in
-    as-known (decodeOf (m .args .h)) (branchOf (m .args .h)) _ _ (m .args .layout) (m .args .a) _ (is-upper-branch (m .args .h) (search needs) e) (
+    as-known _ (m .args .layout) (m .args .a) (is-upper-branch (m .args .h) (search needs) e) (
       c .visit-branch .ensures _,
       sym (after-branch (m .args .a) (m .args .h) _),
     )
@@ -114,7 +111,7 @@ returns-11 c =
 returns-12 : tie.Need-returns-12
 returns-12 c =
     let m = c .before .before in
-    as-known (decodeOf (m .args .h)) Undefined _ _ (m .args .layout) (m .args .a) _ (is-none (m .args .h) (search needs) (c .before .bits .result) (c .before .bits .ensures) (c .match .rest)) (
+    as-known _ (m .args .layout) (m .args .a) (is-none (m .args .h) (search needs) (c .before .bits .result) (c .before .bits .ensures) (c .match .rest)) (
       refl,
       refl,
     )
