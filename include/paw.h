@@ -154,7 +154,7 @@ uint32_t paw_step(struct paw_machine *machine, uint8_t *memory, size_t memory_le
 /*
  * Executes up to `budget` instructions, on this very machine and memory. Answers how the run
  * ended and how many steps were completed; the two functions below take the answer apart. A run
- * whose last step uses up the budget ends by PAW_OK, whatever the next instruction would do.
+ * that has completed `budget` steps, be it none, ends by PAW_OK, whatever the next one would do.
  */
 uint64_t paw_run(struct paw_machine *machine, uint8_t *memory, size_t memory_len, uint32_t budget);
 
@@ -202,7 +202,7 @@ static inline uint16_t paw_answer_place(uint64_t answer)
     return (uint16_t)(answer >> 16);
 }
 
-/* Of a layout, an answer whose number is PAW_OK: the length of the code in bytes. */
+/* Of a layout, the PAW_OK answer of paw_check, paw_verify or paw_load: the bytes of its code. */
 static inline uint16_t paw_answer_code_bytes(uint64_t answer)
 {
     return (uint16_t)(answer >> 16);

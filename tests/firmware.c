@@ -102,7 +102,6 @@ static void test_checking(void)
     EXPECT(paw_answer_window_start(answer) == WINDOW_START);
     EXPECT(paw_answer_window_bytes(answer) == WINDOW_BYTES);
     EXPECT(paw_check(file, sizeof file - 1) == PAW_FILE_LENGTH);
-
 }
 
 /* A reader's three answers: a block, none left, refused. */

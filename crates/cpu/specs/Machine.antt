@@ -27,7 +27,7 @@ flags m = record { n = m .n; z = m .z; c = m .c; v = m .v }
 abbrev pub machine : List ℕ → Flags → Machine
 machine regs f = record { regs = regs; n = f .n; z = f .z; c = f .c; v = f .v }
 
--- the registers when the PC has moved on to the next instruction; after 0xFFFE comes 0
+-- the registers when the PC has moved on to the next instruction; from the last halfword of memory it goes round to the first
 abbrev pub advanced : List ℕ → List ℕ
 advanced regs = set regs 15 (wrap (getD regs 15 0 + 2))
 

@@ -2,14 +2,14 @@
 use mathlib.Core.List.{List, _++_}
 use Prim.Native.Nat.{ℕ, zero, suc, _-_}
 use lib.ListN.{take, drop, replicate}
-use Rattle.units.specs.Address.{byteAddressOf}
 use Rattle.units.specs.Bytes.{withHalfword}
 use Rattle.image.specs.Code.{codeAt}
+use Rattle.verifier.specs.Targets.{addressOf}
 
 -- the first n instructions of a file copied to address 0
 unfoldable pub withCode : List ℕ → ℕ → List ℕ → List ℕ
 withCode file zero memory = memory
-withCode file (suc i) memory = withHalfword (withCode file i memory) (byteAddressOf (record { 0 = i }) .0) (codeAt file i)
+withCode file (suc i) memory = withHalfword (withCode file i memory) (addressOf i .0) (codeAt file i)
 
 -- the bytes from one address up to another set to 0
 unfoldable pub cleared : ℕ → ℕ → List ℕ → List ℕ

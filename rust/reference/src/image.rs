@@ -168,8 +168,8 @@ impl<'a> Iterator for BlockReader<'a> {
     }
 }
 
-/// What a reader of the file gives at its call number `n`, counted from 0: the block, or `None`
-/// when there are none left. A file that fails a check has no reader.
+/// The answer of a file's reader to call `n`: the refusal of the file, its block, or `None` past the
+/// last one.
 pub fn block(file: &[u8], n: usize) -> Result<Option<&[u8]>, Refusal> {
     Ok(BlockReader::open(file)?.nth(n))
 }

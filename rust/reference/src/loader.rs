@@ -5,8 +5,8 @@ use crate::image::{code, set_halfword, Layout};
 use crate::refusal::{Refusal, MEMORY_SIZE};
 use crate::verifier::verify;
 
-/// Puts checks 1 to 14 to a memory and a file. If all pass, copies the code to address 0 and
-/// clears the window; otherwise changes nothing.
+/// Puts check 1 to a memory and the verifier's checks to a file. A program that passes is stored from
+/// byte 0 on, and its window is filled with zeros; any other leaves the memory alone.
 pub fn load(file: &[u8], memory: &mut [u8]) -> Result<Layout, Refusal> {
     if memory.len() != MEMORY_BYTES {
         return Err(Refusal::of(MEMORY_SIZE));
