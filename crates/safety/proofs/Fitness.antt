@@ -10,7 +10,7 @@ use Rattle.image.specs.declared.checker.Layout.{Layout}
 use Rattle.verifier.specs.Targets.{goesTo, targeted}
 use Rattle.verifier.specs.Verify.{verifyOf}
 use Rattle.verifier.specs.declared.verifier.Verdict.the-variants.{Fit}
-use Rattle.verifier_laws.proofs.Targets.{reached-targeted}
+use Rattle.verifier_laws.proofs.Targets.{goes-targeted}
 use Rattle.verifier_laws.proofs.Verdict.{fit-checked, fit-passes}
 use Rattle.verifier_laws.specs.Passes.{Passes}
 
@@ -34,5 +34,5 @@ fit-code file layout fit =
       after-code = window .after-code;
       in-memory = window .in-memory;
       passed = fit-passes file layout fit;
-      hits = λ i j h e. reached-targeted (codeOf file) j record { branch = i; inside = h; there = e };
+      hits = λ i j h e. goes-targeted (codeOf file) j i h e;
     }

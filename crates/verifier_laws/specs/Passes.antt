@@ -5,12 +5,14 @@ use mathlib.Core.Path.{_≡_}
 use Prim.Native.Nat.{ℕ, suc, _<_}
 use lib.Dec.{eqb}
 use lib.ListN.{length, getD}
+use Rattle.units.specs.Address.{instructionIndexOf, branchTargetOf}
 use Rattle.isa.specs.declared.decoder.Decoded.the-variants.{Defined}
 use Rattle.isa.specs.declared.instruction.Instruction.{Instruction}
+use Rattle.isa.specs.declared.instruction.Instruction.the-variants.{Branch}
 use Rattle.image.specs.declared.checker.Layout.{Layout}
 use Rattle.verifier.specs.Access.{accessOf}
 use Rattle.verifier.specs.State.{value}
-use Rattle.verifier.specs.Targets.{addressOf, decodedAt, goesTo}
+use Rattle.verifier.specs.Targets.{addressOf, decodedAt}
 use Rattle.verifier.specs.Questions.{check10, check11, check12, check13, check14}
 use Rattle.verifier.specs.Verify.{valuesAt}
 
@@ -24,8 +26,11 @@ pub record Passes (code : List ℕ) (layout : Layout) (i : ℕ) : Type 0 where
   pub passes13 : check13 layout (addressOf i) instruction ≡ true
   pub passes14 : check14 (eqb (suc i) (length code)) (getD code i 0) ≡ true
 
--- some branch of the code goes to instruction j
+-- some instruction of the code is a branch whose target is instruction j ("Facts the judge carries": landing places)
 pub record Reached (code : List ℕ) (j : ℕ) : Type 0 where
   pub branch : ℕ
   pub inside : branch < length code
-  pub there : goesTo code branch j ≡ true
+  pub condition : ℕ
+  pub offset : ℕ
+  pub decoded : decodedAt code branch ≡ Defined (Branch condition offset)
+  pub there : instructionIndexOf (branchTargetOf (addressOf branch) offset) .0 ≡ j
