@@ -5,16 +5,14 @@ use mathlib.Core.List.{List, [], _∷_, _++_}
 use Prim.Native.Nat.{ℕ, zero, suc, _+_, _≤_, _<_}
 use native.Mathlib.Decide.{le-ind}
 use native.Mathlib.Omega.{arith}
-use borrow.Author.Tests.{eq-eqb, ne-eqb}
+use borrow.Author.Tests.{ne-eqb, eqb-true, eqb-false}
+use lib.Bits.{bitOr, or-zero-l, or-add-and, and-le-r}
+use lib.Dec.{eqb}
 use Rattle.refusals.specs.declared.refusal.Refusal.{Refusal}
 use Rattle.image.specs.Block.{codeHalfword}
 use Rattle.image.specs.Check.{Asked, firstNo, rowsBelow, unusedZero}
 use Rattle.image.specs.declared.answer.Answer.{Answer}
 use Rattle.image.specs.declared.answer.Answer.the-variants.{Pass, Refused}
-
-and-false : (t : Bool) → (t && false) ≡ false
-and-false true = refl
-and-false false = refl
 
 -- the first answer, or the second if that passed
 abbrev pub orElse : Answer → Answer → Answer
@@ -95,17 +93,18 @@ module _ (row : ℕ → List Asked) where
   all-passed zero each = refl
   all-passed (suc n) each = next n (all-passed n (λ k h. each k (omega arith))) ∙ each n (omega arith)
 
--- one unused halfword more
-module _ (block : List ℕ) (used : ℕ) where
-  pub zero-more : (n h : ℕ) → unusedZero block used n ≡ true → h ≡ codeHalfword block (used + n) → h ≡ 0 → unusedZero block used (suc n) ≡ true
-  unfolding unusedZero
-  zero-more n h e q z = simp (e, eq-eqb _ _ (sym q ∙ z))
+-- halfwords put together are 0 where both are
+or-is-zero : (a b : ℕ) → eqb (bitOr a b) 0 ≡ (eqb a 0 && eqb b 0)
+or-is-zero a b = go (eqb a 0) refl
+  where
+    go : (t : Bool) → eqb a 0 ≡ t → eqb (bitOr a b) 0 ≡ (eqb a 0 && eqb b 0)
+    go true e = let z : a ≡ 0 = eqb-true a 0 e in rw z (ap (λ (x : ℕ). eqb x 0) (or-zero-l b))
+    go false e =
+        let n : bitOr a b ≡ 0 → ⊥ = λ z. eqb-false a 0 e (omega (arith, or-add-and a b, and-le-r a b, z)) in
+        rw e (ne-eqb (bitOr a b) 0 n)
 
-  -- one that isn't 0 decides
-  pub zero-ends : (n m h : ℕ) → n < m → h ≡ codeHalfword block (used + n) → (h ≡ 0 → ⊥) → unusedZero block used m ≡ false
-  unfolding unusedZero
-  zero-ends n m h lt q z =
-      le-ind (λ (k : ℕ). unusedZero block used k ≡ false)
-      (simp (ne-eqb _ _ (λ e. z (q ∙ e))) (and-false (unusedZero block used n)))
-      (λ k _ ih. simp ih)
-      m lt
+-- one unused halfword more
+pub zero-more : (block : List ℕ) (used n all h : ℕ) → eqb all 0 ≡ unusedZero block used n → h ≡ codeHalfword block (used + n)
+    → eqb (bitOr all h) 0 ≡ unusedZero block used (suc n)
+unfolding unusedZero
+zero-more block used n all h e q = or-is-zero all h ∙ rw (e, q)

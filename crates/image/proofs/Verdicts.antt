@@ -2,15 +2,16 @@
 use mathlib.Core.Bool.{Bool, true, false, _&&_}
 use mathlib.Core.Path.{_≡_, refl, sym, ap, _∙_}
 use mathlib.Core.List.{List, [], _∷_, _++_}
-use Prim.Native.Nat.{ℕ, _+_, _-_, _*_, _%_, _≤_}
+use Prim.Native.Nat.{ℕ, _+_, _-_, _*_, _%_, _≤_, _<_}
 use native.Mathlib.Omega.{arith}
-use borrow.Author.Tests.{leb-true, eqb-true}
+use borrow.Author.Tests.{leb-true, eqb-true, eqb-false, eq-eqb, ne-eqb}
 use lib.Dec.{eqb, leb}
 use Rattle.refusals.specs.Refusal.{refusal, refusalInBlock}
 use Rattle.refusals.specs.declared.refusal.Refusal.{Refusal}
 use lib.ListN.{length}
 use Rattle.image.specs.Format.{blockBytes, blockCode, mostBytes}
 use Rattle.image.specs.Block.{blocksIn, blockOf, usedOf, windowStartOf, windowLengthOf}
+use Rattle.image.specs.Window.{WindowIs}
 use Rattle.image.specs.Code.{codeLength}
 use Rattle.image.specs.Check.{whole, firstNo, check2, check3, check4, check5, check6, check7, usedRight, unusedZero, blockChecks, checksBelow, layoutOf, layoutFits, checkedAs, checkOf}
 use Rattle.image.specs.declared.answer.Answer.{Answer}
@@ -58,6 +59,26 @@ module _ (isLast : Bool) (block : List ℕ) (used : ℕ) where
   pub filled-as : (t : Bool) → used ≡ usedOf block → usedRight isLast used ≡ true → t ≡ unusedZero block used (blockCode - used) → t ≡ check6 isLast block
   unfolding check6
   filled-as t q e z = simp (← q, e) z
+
+-- a full block, the last or not
+pub filled-full : (isLast : Bool) (block : List ℕ) → usedOf block ≡ blockCode → check6 isLast block ≡ true
+unfolding check6 unusedZero
+filled-full true block e = rw e refl
+filled-full false block e = rw e refl
+
+-- two pairs of halfwords are the same where each pair is in one number, and the numbers are
+same-pair : (a b c d x y : ℕ) → a < 65536 → c < 65536 → x ≡ a + b * 65536 → y ≡ c + d * 65536 → eqb x y ≡ (eqb a c && eqb b d)
+same-pair a b c d x y ha hc ex ey = go (eqb a c) (eqb b d) refl refl
+  where
+    go : (t u : Bool) → eqb a c ≡ t → eqb b d ≡ u → eqb x y ≡ (eqb a c && eqb b d)
+    go true true p q = rw (p, q) (eq-eqb x y (omega (arith, eqb-true a c p, eqb-true b d q)))
+    go true false p q = rw (p, q) (ne-eqb x y (λ e. eqb-false b d q (omega arith)))
+    go false u p q = rw p (ne-eqb x y (λ e. eqb-false a c p (omega arith)))
+
+-- check 7 from two windows
+pub same-window : (block first : List ℕ) (x y : ℕ) → WindowIs block x → WindowIs first y → eqb x y ≡ check7 first block
+unfolding check7
+same-window block first x y p q = same-pair _ _ _ _ x y (p .1) (q .1) (p .0) (q .0)
 
 -- block k and block 0 of a file of so many blocks
 module _ (file block first : List ℕ) (k blocks : ℕ) (b : block ≡ blockOf file k) (f : first ≡ blockOf file 0) (n : blocks ≡ blocksIn file) where

@@ -1,4 +1,5 @@
 pub mod Format
 pub mod Block
+pub mod Window
 pub mod Code
 pub mod Check

@@ -14,12 +14,13 @@ use refusals::refusal_of;
 use units::InstructionIndex;
 use units::MEMORY_BYTES;
 use units::byte_address;
-ghost use mathlib.Core.List.{[], _∷_};
+ghost use mathlib.Core.List.{List, [], _∷_};
 ghost use mathlib.Core.Path.{_≡_};
-ghost use Prim.Native.Nat.{_-_, _<_, _≤_};
+ghost use Prim.Native.Nat.{ℕ, _-_, _<_, _≤_};
 ghost use lib.ListN.{length};
 ghost use Rattle.image.specs.Format.{blockBytes, blockCode, mostBlocks};
-ghost use Rattle.image.specs.Block.{blocksIn};
+ghost use Rattle.image.specs.Block.{blocksIn, blockOf};
+ghost use Rattle.image.specs.Window.{WindowIs};
 ghost use Rattle.image.specs.Check.{whole, firstNo, check2, check3, check4, check5, usedRight, unusedZero, check6, check7, check8, blockChecks, checksBelow, layoutOf, layoutFits, checkedAs, checkOf};
 
 // What an accepted file says of itself, in bytes: the length of its code (the
@@ -73,19 +74,19 @@ fn is_numbered(block: &[u8], k: u8, blocks: u8) -> bool
     field(block, 1) == k as u16 && field(block, 5) == blocks as u16
 }
 
-// The code halfwords of a block from number `used` on are 0.
+// The code halfwords of a block from number `used` on are 0. They are put
+// together with no test in between, which the compiler does many at a time.
 fn is_unused_zero(block: &[u8], used: usize) -> bool
     requires { ⌜ (length (now block) ≡ blockBytes) × (used ≤ blockCode) ⌝ }
     ensures { λ r. ⌜ r ≡ unusedZero (now (block .entry)) used (blockCode - used) ⌝ }
 {
+    let mut all: u16 = 0;
     let mut n = 0;
     while n < BLOCK_CODE - used {
-        if field(block, HEADER_HALFWORDS + used + n) != 0 {
-            return false;
-        }
+        all = all | field(block, HEADER_HALFWORDS + used + n);
         n += 1;
     }
-    true
+    all == 0
 }
 
 // The last block holds some code, a block before it is full.
@@ -99,24 +100,36 @@ fn is_used_right(used: usize, is_last: bool) -> bool
     }
 }
 
-// Check 6.
+// Check 6. A full block is as it should be, the last or not, and leaves nothing
+// unused: most blocks are full.
 fn is_filled(block: &[u8], is_last: bool) -> bool
     requires { ⌜ length (now block) ≡ blockBytes ⌝ }
     ensures { λ r. ⌜ r ≡ check6 «is_last» (now (block .entry)) ⌝ }
 {
     let used = field(block, 2) as usize;
+    if used == BLOCK_CODE {
+        return true;
+    }
     if !is_used_right(used, is_last) {
         return false;
     }
     is_unused_zero(block, used)
 }
 
-// Check 7.
-fn has_window_of(block: &[u8], first: &[u8]) -> bool
-    requires { ⌜ (length (now block) ≡ blockBytes) × (length (now first) ≡ blockBytes) ⌝ }
-    ensures { λ r. ⌜ r ≡ check7 (now (first .entry)) (now (block .entry)) ⌝ }
+// A block's window in one number, so that two windows are compared at once.
+fn window_word(block: &[u8]) -> u32
+    requires { ⌜ length (now block) ≡ blockBytes ⌝ }
+    ensures { λ r. ⌜ WindowIs (now (block .entry)) r ⌝ }
 {
-    field(block, 3) == field(first, 3) && field(block, 4) == field(first, 4)
+    (field(block, 3) as u32) + (field(block, 4) as u32) * 0x10000
+}
+
+// Check 7, of the first block's window.
+fn has_window(block: &[u8], window: u32) -> bool
+    requires { ⌜ length (now block) ≡ blockBytes ⌝ }
+    ensures { λ r. ⌜ ((first : List ℕ) → WindowIs first window → r ≡ check7 first (now (block .entry))) ⌝ }
+{
+    window_word(block) == window
 }
 
 // Check 8, of `c` bytes of code and the window of `l` bytes from `w`: the window
@@ -139,9 +152,10 @@ pub fn is_window(c: u16, w: u16, l: u16) -> bool
     (w as usize) + (l as usize) <= MEMORY_BYTES
 }
 
-// Checks 3 to 7 of block `k`, of so many blocks.
-fn check_block(file: &[u8], k: u8, blocks: u8) -> Answer
+// Checks 3 to 7 of block `k`, of so many blocks, where the first has this window.
+fn check_block(file: &[u8], k: u8, blocks: u8, window: u32) -> Answer
     requires { ⌜ (k < blocks) × (blocks ≡ blocksIn (now file)) ⌝ }
+    requires { ⌜ WindowIs (blockOf (now file) 0) window ⌝ }
     ensures { λ r. ⌜ r ≡ firstNo (blockChecks (now (file .entry)) k) ⌝ }
 {
     let block = block_part(file, k as usize);
@@ -157,7 +171,7 @@ fn check_block(file: &[u8], k: u8, blocks: u8) -> Answer
     if !is_filled(block, k + 1 == blocks) {
         return Answer::Refused(refusal_in_block(6, k));
     }
-    if !has_window_of(block, block_part(file, 0)) {
+    if !has_window(block, window) {
         return Answer::Refused(refusal_in_block(7, k));
     }
     Answer::Pass
@@ -165,12 +179,13 @@ fn check_block(file: &[u8], k: u8, blocks: u8) -> Answer
 
 // Checks 3 to 7 of each block, first to last.
 fn check_blocks(file: &[u8], blocks: u8) -> Answer
-    requires { ⌜ blocks ≡ blocksIn (now file) ⌝ }
+    requires { ⌜ (blocks ≡ blocksIn (now file)) × (1 ≤ blocks) ⌝ }
     ensures { λ r. ⌜ r ≡ firstNo (checksBelow (now (file .entry)) blocks) ⌝ }
 {
+    let window = window_word(block_part(file, 0));
     let mut k = 0;
     while k < blocks {
-        let answer = check_block(file, k, blocks);
+        let answer = check_block(file, k, blocks, window);
         if let Answer::Refused(refusal) = answer {
             return Answer::Refused(refusal);
         }

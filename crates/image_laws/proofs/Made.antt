@@ -6,7 +6,7 @@ use mathlib.Core.List.{List, []}
 use Prim.Native.Nat.{ℕ, _+_, _-_, _*_, _/_, _%_, _≤_, _<_}
 use native.Mathlib.Nat.{eq-or-lt-of-le}
 use native.Mathlib.Omega.{arith}
-use borrow.Author.Tests.{eq-eqb, ne-eqb, le-leb, le-ltb}
+use borrow.Author.Tests.{eq-eqb, ne-eqb, le-leb}
 use lib.Dec.{eqb}
 use lib.ListN.{length, getD, List·getD-eq-default}
 use lib.Seq.{ext-getD}
@@ -23,7 +23,7 @@ use Rattle.image.specs.declared.checker.Checked.the-variants.{Valid}
 use Rattle.image.proofs.Blocks.{block-halfword}
 use Rattle.image.proofs.Answers.{passed-head, all-passed}
 use Rattle.image.proofs.Verdicts.{rest8}
-use Rattle.packer.proofs.Images.{image-length, image-low, image-high, body-at, balance-at, sum-less}
+use Rattle.packer.proofs.Images.{image-length, image-low, image-high, body-code, body-at, balance-at, sum-less}
 use Rattle.image.proofs.Valid.{code-length, code-halfword}
 use Rattle.image_laws.specs.Claims.{layout}
 use Rattle.image_laws.proofs.Halves.{sum-same, unused-all, sum-back}
@@ -55,10 +55,7 @@ module _ (code : List ℕ) (w l : ℕ) where
     header-at j hj = block-at j (omega arith) ∙ body-at code w l k j (omega arith)
 
     code-at : (i : ℕ) → i < blockCode → codeHalfword (blockOf (imageOf code w l) k) i ≡ getD code (blockCode * k + i) 0
-    unfolding bodyHalfword
-    code-at i hi =
-        let past : 6 + i - 6 ≡ i = omega arith in
-        block-at (6 + i) (omega arith) ∙ body-at code w l k (6 + i) (omega arith) ∙ simp (le-ltb (6 + i) 6 (omega arith), past)
+    code-at i hi = block-at (6 + i) (omega arith) ∙ body-at code w l k (6 + i) (omega arith) ∙ body-code code w l k i
 
     sum-at : sumOf (blockOf (imageOf code w l) k) ≡ 0
     unfolding sumBelow balanceOf

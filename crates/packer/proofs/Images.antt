@@ -1,15 +1,17 @@
 -- The image of a code, byte by byte.
-use mathlib.Core.Path.{_≡_, refl, sym, ap, _∙_}
+use mathlib.Core.Path.{_≡_, refl, sym, ap, ap₂, _∙_}
 use mathlib.Core.List.{List}
-use Prim.Native.Nat.{ℕ, zero, suc, _+_, _-_, _*_, _/_, _%_, _<_}
+use Prim.Native.Nat.{ℕ, zero, suc, _+_, _-_, _*_, _/_, _%_, _<_, _≤_}
+use native.Mathlib.Numerals.{add-one}
 use native.Mathlib.Omega.{arith}
-use borrow.Author.Tests.{lt-ltb}
-use lib.ListN.{length, getD, take, set}
-use Rattle.units.specs.Bytes.{byteOf}
+use borrow.Author.Tests.{lt-ltb, le-ltb}
+use lib.ListN.{length, getD, take, List·getD-eq-default}
+use Rattle.units.specs.Bytes.{byteOf, withHalfword}
 use Rattle.units.specs.Address.{wrap}
-use Rattle.image.specs.Format.{blockBytes, blockHalfwords}
-use Rattle.image.specs.Block.{sumBelow}
-use Rattle.packer.specs.Pack.{blocksNeeded, bodyHalfword, balanceOf, imageHalfword, imageByte, imageOf}
+use Rattle.image.specs.Format.{blockBytes, blockHalfwords, blockCode, headerHalfwords}
+use Rattle.image.specs.Block.{addedTo, sumBelow}
+use Rattle.packer.specs.Pack.{blocksNeeded, headerOf, bodyHalfword, balanceOf, imageHalfword, imageByte, imageOf}
+use Rattle.packer.specs.Writing.{Room, Written, codeEnd}
 use Rattle.image.proofs.Lists.{length-tabulate, tabulate-at}
 use Rattle.packer.proofs.Overwriting.{two-more}
 
@@ -55,6 +57,23 @@ module _ (code : List ℕ) (w l : ℕ) where
         let byte : (512 * k + 2 * j + 1) % 2 ≡ 1 = omega arith in
         image-at (512 * k + 2 * j + 1) (omega arith) ∙ same-byte block place byte
 
+  -- a block's halfwords before the last: the header, the code, and 0 past the code's end
+  pub body-header : (k j h : ℕ) → j < headerHalfwords → h ≡ getD (headerOf code w l k) j 0 → h ≡ bodyHalfword code w l k j
+  unfolding bodyHalfword
+  body-header k j h less e = simp (lt-ltb j 6 less) e
+
+  pub body-code : (k i : ℕ) → bodyHalfword code w l k (headerHalfwords + i) ≡ getD code (blockCode * k + i) 0
+  unfolding bodyHalfword
+  body-code k i =
+      let past : 6 ≤ 6 + i = omega arith in
+      let place : 6 + i - 6 ≡ i = omega arith in
+      simp (le-ltb (6 + i) 6 past, place)
+
+  pub body-zero : (k j : ℕ) → codeEnd code k ≤ j → j < blockHalfwords - 1 → bodyHalfword code w l k j ≡ 0
+  body-zero k j h last =
+      let place : 6 + (j - 6) ≡ j = omega arith in
+      ap (bodyHalfword code w l k) (sym place) ∙ body-code k (j - 6) ∙ List·getD-eq-default code 0 (omega arith)
+
   pub body-at : (k j : ℕ) → j < blockHalfwords - 1 → imageHalfword code w l k j ≡ bodyHalfword code w l k j
   unfolding imageHalfword
   body-at k j h = simp (lt-ltb j 255 h)
@@ -69,33 +88,37 @@ module _ (code : List ℕ) (w l : ℕ) where
   unfolding imageHalfword
   balance-at k = refl
 
-  -- an output that starts as the image does, up to halfword j of block k, and that halfword put after it
-  module _ (k j : ℕ) (out next : List ℕ) (h : ℕ) where
-    put : k < blocksNeeded (length code) → j < blockHalfwords → length out ≡ blockBytes * blocksNeeded (length code)
-        → take (blockBytes * k + 2 * j) out ≡ take (blockBytes * k + 2 * j) (imageOf code w l)
-        → h ≡ imageHalfword code w l k j
-        → next ≡ set (set out (blockBytes * k + 2 * j) (h % 256)) (blockBytes * k + 2 * j + 1) (h / 256)
-        → take (blockBytes * k + 2 * j + 2) next ≡ take (blockBytes * k + 2 * j + 2) (imageOf code w l)
-    put hk hj size e q store =
-        ap (take (512 * k + 2 * j + 2)) store
-        ∙ two-more out (imageOf code w l) (512 * k + 2 * j) (h % 256) (h / 256) e (omega arith) (rw image-length (omega arith))
-        (ap (λ (x : ℕ). x % 256) q ∙ sym (image-low k j hk hj))
-        (ap (λ (x : ℕ). x / 256) q ∙ sym (image-high k j hk hj))
+  -- the blocks before block k are written, and nothing of it
+  pub written-none : (k : ℕ) (out : List ℕ) → take (blockBytes * k) out ≡ take (blockBytes * k) (imageOf code w l) → Written code w l k 0 out 0
+  unfolding sumBelow
+  written-none k out e = let start : 512 * k + 2 * 0 ≡ 512 * k = omega arith in (refl, rw start e)
 
-    pub put-body : k < blocksNeeded (length code) → j < blockHalfwords - 1 → length out ≡ blockBytes * blocksNeeded (length code)
-        → take (blockBytes * k + 2 * j) out ≡ take (blockBytes * k + 2 * j) (imageOf code w l)
-        → h ≡ bodyHalfword code w l k j
-        → next ≡ set (set out (blockBytes * k + 2 * j) (h % 256)) (blockBytes * k + 2 * j + 1) (h / 256)
-        → take (blockBytes * k + 2 * (j + 1)) next ≡ take (blockBytes * k + 2 * (j + 1)) (imageOf code w l)
-    put-body hk hj size e q store =
+  -- a halfword put after what is written of block k
+  module _ (k j p : ℕ) (out next : List ℕ) (h sum : ℕ) (room : Room code k out) (so : Written code w l k j out sum) (place : p ≡ blockBytes * k + 2 * j)
+      (store : next ≡ withHalfword out p h) where
+    put : j < blockHalfwords → h ≡ imageHalfword code w l k j → take (blockBytes * k + 2 * j + 2) next ≡ take (blockBytes * k + 2 * j + 2) (imageOf code w l)
+    put hj q =
+        ap (take (512 * k + 2 * j + 2)) (store ∙ ap (λ (a : ℕ). withHalfword out a h) place)
+        ∙ two-more out (imageOf code w l) (512 * k + 2 * j) (h % 256) (h / 256) (so .1) (omega (arith, room)) (rw image-length (omega (arith, room)))
+        (ap (λ (x : ℕ). x % 256) q ∙ sym (image-low k j (room .1) hj))
+        (ap (λ (x : ℕ). x / 256) q ∙ sym (image-high k j (room .1) hj))
+
+    -- one more, before the last
+    pub written-more : (r : ℕ) → j < blockHalfwords - 1 → h ≡ bodyHalfword code w l k j → r ≡ addedTo sum h → Written code w l k (j + 1) next r
+    unfolding sumBelow
+    written-more r hj q e =
         let step : 512 * k + 2 * (j + 1) ≡ 512 * k + 2 * j + 2 = omega arith in
-        rw step (put hk (omega arith) size e (q ∙ sym (body-at k j hj)) store)
+        (rw add-one (e ∙ ap₂ addedTo (so .0) q), rw step (put (omega arith) (q ∙ sym (body-at k j hj))))
 
-    pub put-balance : k < blocksNeeded (length code) → j ≡ blockHalfwords - 1 → length out ≡ blockBytes * blocksNeeded (length code)
-        → take (blockBytes * k + 2 * j) out ≡ take (blockBytes * k + 2 * j) (imageOf code w l)
-        → h ≡ balanceOf code w l k
-        → next ≡ set (set out (blockBytes * k + 2 * j) (h % 256)) (blockBytes * k + 2 * j + 1) (h / 256)
-        → take (blockBytes * k + blockBytes) next ≡ take (blockBytes * k + blockBytes) (imageOf code w l)
-    put-balance hk hj size e q store =
+    -- a 0, which adds nothing to the sum
+    pub written-zero : codeEnd code k ≤ j → j < blockHalfwords - 1 → h ≡ 0 → Written code w l k (j + 1) next sum
+    written-zero end hj z =
+        let less : sumBelow (bodyHalfword code w l k) j < 65536 = sum-less (bodyHalfword code w l k) j in
+        written-more sum hj (z ∙ sym (body-zero k j end hj)) (omega (arith, so .0, less, z))
+
+    -- the last
+    pub written-all : j ≡ blockHalfwords - 1 → h < 65536 → (h + sum) % 65536 ≡ 0 → take (blockBytes * k + blockBytes) next ≡ take (blockBytes * k + blockBytes) (imageOf code w l)
+    written-all hj less e =
         let step : 512 * k + 512 ≡ 512 * k + 2 * j + 2 = omega arith in
-        rw step (put hk (omega arith) size e (q ∙ sym (balance-at k) ∙ ap (imageHalfword code w l k) (sym hj)) store)
+        let is = balance-is k h sum (so .0 ∙ ap (sumBelow (bodyHalfword code w l k)) hj) less e in
+        rw step (put (omega arith) (is ∙ sym (balance-at k) ∙ ap (imageHalfword code w l k) (sym hj)))

@@ -20,6 +20,9 @@ returns c = ap Refused (c .refusal-of .ensures) ∙ refused2 _ (sym (c .before .
 cast-blocks : tie.Need-cast-blocks
 cast-blocks c = let h = size-right _ (yes2 c) in omega arith
 
+check-blocks-requires : tie.Need-check-blocks-requires
+check-blocks-requires c κs = let h = size-right _ (yes2 c) in (refl, omega arith)
+
 read-layout-requires : tie.Need-read-layout-requires
 read-layout-requires c κs =
     let h = size-right _ (yes2 (c .before .before .before)) in
@@ -41,7 +44,7 @@ check-spec =
     (λ c κs. search needs)
     returns
     cast-blocks
-    (λ c κs. search needs)
+    check-blocks-requires
     (λ c. search needs)
     (λ c. search needs)
     read-layout-requires

@@ -11,14 +11,19 @@ use Rattle.image.proofs.checker.check_blocks.Statement.{statement}
 use Rattle.image.proofs.checker.check_blocks.Tie as tie
 
 abbrev Inv-loop : tie.InvT-loop
-Inv-loop file blocks k₀ k = (k ≤ blocks) × (firstNo (checksBelow file k) ≡ Pass)
+Inv-loop file blocks window k₀ k = (k ≤ blocks) × (firstNo (checksBelow file k) ≡ Pass)
 
 abbrev μ-loop : tie.MeasureT-loop
-μ-loop file blocks k₀ k = blocks - k
+μ-loop file blocks window k₀ k = blocks - k
 
 loop-holds : tie.Need-loop-holds Inv-loop μ-loop
 unfolding firstNo rowsBelow
 loop-holds c = (search needs, refl)
+
+check-block-requires : tie.Need-check-block-requires Inv-loop μ-loop
+check-block-requires c κs =
+    let w = c .before .before in
+    ((search needs, w .before .before .before .pre .0), rw (w .before .block-part .ensures .0) at (w .window-word .ensures))
 
 returns : tie.Need-returns Inv-loop μ-loop
 returns c =
@@ -30,8 +35,9 @@ loop-again c = (search needs, rw add-one (next _ _ (c .before .before .before .b
 
 returns-2 : tie.Need-returns-2 Inv-loop μ-loop
 returns-2 c =
-    let e : c .before .loop .k ≡ c .before .before .before .args .blocks = omega arith in
-    sym (c .before .loop .inv .1) ∙ ap (λ (n : ℕ). firstNo (checksBelow (c .before .before .before .args .file .now) n)) e
+    let a = c .before .before .before .before .before .args in
+    let e : c .before .loop .k ≡ a .blocks = omega arith in
+    sym (c .before .loop .inv .1) ∙ ap (λ (n : ℕ). firstNo (checksBelow (a .file .now) n)) e
 
 pub check-blocks-spec : {M : Type 1} → statement M
 check-blocks-spec =
@@ -39,8 +45,10 @@ check-blocks-spec =
     (tie.spec
     Inv-loop
     μ-loop
-    loop-holds
     (λ c κs. search needs)
+    (λ c κs. search needs)
+    loop-holds
+    check-block-requires
     (λ c. search needs)
     returns
     (λ c. search needs)

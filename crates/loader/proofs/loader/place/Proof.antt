@@ -18,8 +18,8 @@ copy-code-requires : tie.Need-copy-code-requires
 copy-code-requires c κs =
     let n = c .before in
     let s = entry n in (
+      (code-fits-memory (s .args .file .now) (s .args .layout) (s .pre .0) _ (n .instruction-index .ensures), s .pre .1),
       code-there (s .args .file .now) (s .args .layout) (s .pre .0) _ (n .instruction-index .ensures),
-      omega (arith, code-fits-memory (s .args .file .now) (s .args .layout) (s .pre .0) _ (n .instruction-index .ensures), s .pre .1),
     )
 
 clear-window-requires : tie.Need-clear-window-requires

@@ -21,7 +21,10 @@ loop-holds : tie.Need-loop-holds Inv-loop μ-loop
 loop-holds c = (search needs, c .blocks-needed .ensures, refl, refl)
 
 write-block-requires : tie.Need-write-block-requires Inv-loop μ-loop
-write-block-requires c κs = (c .before .before .before .before .before .before .pre .0, omega arith, c .before .before .loop .inv .2 ∙ c .before .before .before .before .before .before .pre .1, c .before .before .loop .inv .3)
+write-block-requires c κs =
+    let s = c .before .before .before .before .before .before in
+    let inv = c .before .before .loop .inv in
+    ((s .pre .0, omega arith, inv .2 ∙ s .pre .1), inv .3)
 
 loop-again : tie.Need-loop-again Inv-loop μ-loop
 loop-again c =
