@@ -2,6 +2,7 @@ pub mod Accepted
 pub mod Bits
 pub mod Jumps
 pub mod Marking
+pub mod Memory
 pub mod Numbers
 pub mod Position
 pub mod Walk

@@ -1,43 +1,30 @@
--- From one code halfword of a file to the next.
+-- Within a block of a file, and from one to the next.
 use mathlib.Core.Bool.{Bool, true, false}
-use mathlib.Core.Logic.{_≢_}
 use mathlib.Core.Path.{_≡_, refl}
-use Prim.Native.Nat.{ℕ, suc, _+_, _*_, _/_, _%_, _<_}
+use Prim.Native.Nat.{ℕ, _+_, _-_, _*_, _<_, _≤_}
 use native.Mathlib.Omega.{arith}
-use borrow.Author.Tests.{eqb-true, eqb-false}
-use lib.Dec.{eqb}
+use borrow.Author.Tests.{ltb-true, ltb-false}
+use lib.Dec.{ltb}
 use Rattle.image.specs.Code.{codePosition}
-use Rattle.verifier.specs.Position.{positionAfter}
+use Rattle.verifier.specs.Position.{BlockAt, blockEnd}
 
--- where in its block halfword m stands
-in-block : (q m : ℕ) → m < 249 → (q * 512 + 12 + 2 * m) % 512 ≡ 12 + 2 * m
-in-block q m h = omega arith
-
--- the number after the last of a block, and after another
-last : (n : ℕ) → n % 249 ≡ 248 → (suc n / 249 ≡ suc (n / 249)) × (suc n % 249 ≡ 0)
-last n e = (omega arith, omega arith)
-
-other : (n : ℕ) → n % 249 < 248 → (suc n / 249 ≡ n / 249) × (suc n % 249 ≡ suc (n % 249))
-other n e = (omega arith, omega arith)
-
-pub position-next : (n : ℕ) → positionAfter (codePosition n) ≡ codePosition (suc n)
-position-next n = go (eqb (codePosition n % 512) 508) refl
+-- where a block ends
+pub ends : (i n : ℕ) → i < n
+    → (i < blockEnd i n) × (blockEnd i n ≤ n) × (blockEnd i n ≤ i + 249) × (blockEnd i n < n → blockEnd i n ≡ i + 249)
+ends i n h = go (ltb (n - i) 249) refl
   where
-    at : codePosition n % 512 ≡ 12 + 2 * (n % 249)
-    at = in-block (n / 249) (n % 249) (omega arith)
+    go : (t : Bool) → ltb (n - i) 249 ≡ t
+        → (i < blockEnd i n) × (blockEnd i n ≤ n) × (blockEnd i n ≤ i + 249) × (blockEnd i n < n → blockEnd i n ≡ i + 249)
+    go true e = let l : n - i < 249 = ltb-true _ _ e in rw e (h, omega arith, omega arith, λ q. omega arith)
+    go false e = let l : 249 ≤ n - i = ltb-false _ _ e in rw e (omega arith, omega arith, omega arith, λ q. refl)
 
-    go : (t : Bool) → eqb (codePosition n % 512) 508 ≡ t → positionAfter (codePosition n) ≡ codePosition (suc n)
-    go true e =
-        let q : codePosition n % 512 ≡ 508 = eqb-true _ _ e in
-        let l = last n (linear (n % 249) (codePosition n % 512) at q) in
-        rw (e, l .0, l .1) (omega arith)
-      where
-        linear : (m p : ℕ) → p ≡ 12 + 2 * m → p ≡ 508 → m ≡ 248
-        linear m p a b = omega arith
-    go false e =
-        let q : codePosition n % 512 ≢ 508 = eqb-false _ _ e in
-        let o = other n (linear (n % 249) (codePosition n % 512) (omega arith) at q) in
-        rw (e, o .0, o .1) (omega arith)
-      where
-        linear : (m p : ℕ) → m < 249 → p ≡ 12 + 2 * m → p ≢ 508 → m < 248
-        linear m p h a b = omega arith
+-- the instructions of a block stand side by side
+pub in-block : (s i p q : ℕ) → BlockAt s p → s ≤ i → i < s + 249 → q + 2 * s ≡ p + 2 * i → q ≡ codePosition i
+in-block s i p q b low high e = omega (arith, b .0, b .1)
+
+-- from a block to the next
+next-block : (s p : ℕ) → BlockAt s p → BlockAt (s + 249) (p + 512)
+next-block s p b = (omega (arith, b .0), omega (arith, b .0, b .1))
+
+pub on : (i n p e : ℕ) → i < n → BlockAt i p → e ≡ blockEnd i n → (i < e) × (e ≤ n) × (e < n → BlockAt e (p + 512))
+on i n p e h b q = let x = ends i n h in rw q (x .0, x .1, λ l. rw (x .3 l) (next-block i p b))

@@ -6,3 +6,4 @@ pub mod Targets
 pub mod Questions
 pub mod Numbers
 pub mod Verify
+pub mod Progress

@@ -1,9 +1,15 @@
--- Where the code halfwords of a file stand, one after the other ("Image blocks"). Only the contracts of private functions speak of it.
+-- The blocks of a code, one after the other ("Image blocks"). Only the contracts of private functions speak of it.
 use mathlib.Core.Bool.{cond}
+use mathlib.Core.Path.{_≡_}
 use Prim.Native.Nat.{ℕ, _+_, _-_, _%_}
-use lib.Dec.{eqb}
-use Rattle.image.specs.Format.{blockBytes, headerBytes}
+use lib.Dec.{ltb}
+use Rattle.image.specs.Code.{codePosition}
+use Rattle.image.specs.Format.{blockCode}
 
--- the position after p: two bytes on, and past the sum of the block and the next header where the block's code ends
-abbrev pub positionAfter : ℕ → ℕ
-positionAfter p = cond (eqb (p % blockBytes) (blockBytes - 4)) (p + (4 + headerBytes)) (p + 2)
+-- a block starts with instruction i, which stands at byte p of the file
+abbrev pub BlockAt : ℕ → ℕ → Type 0
+BlockAt i p = (i % blockCode ≡ 0) × (p ≡ codePosition i)
+
+-- the number behind its last instruction, in a code of n
+abbrev pub blockEnd : ℕ → ℕ → ℕ
+blockEnd i n = cond (ltb (n - i) blockCode) n (i + blockCode)

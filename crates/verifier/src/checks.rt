@@ -9,23 +9,20 @@ ghost use mathlib.Core.Bool.{cond, not};
 ghost use Prim.Native.Nat.{_<_};
 ghost use lib.Dec.{eqb, ltb};
 ghost use lib.ListN.{length};
-ghost use Rattle.units.specs.Address.{branchTargetOf};
 ghost use Rattle.units.specs.Field.{field};
 ghost use Rattle.isa.specs.declared.decoder.Decoded.the-variants.{Defined};
 ghost use Rattle.isa.specs.declared.instruction.Instruction.the-variants.{Str, Strb};
 ghost use Rattle.verifier.specs.State.{registerCount, pcRegister};
 ghost use Rattle.verifier.specs.Words.{stateOf};
 ghost use Rattle.verifier.specs.Numbers.{numberOf};
-ghost use Rattle.verifier.specs.Questions.{check10, check11, check14};
+ghost use Rattle.verifier.specs.Questions.{check10, check11};
 
-// Check 14 of a halfword.
-pub(crate) fn check_last(is_last: bool, h: u16) -> u8
-    ensures { λ r. ⌜ r ≡ cond (check14 «is_last» h) 0 14 ⌝ }
+// Check 14 of the last halfword of a code.
+pub(crate) fn check_last(h: u16) -> u8
+    ensures { λ r. ⌜ r ≡ cond (eqb h 0) 0 14 ⌝ }
 {
-    if is_last {
-        if h != 0 {
-            return 14;
-        }
+    if h != 0 {
+        return 14;
     }
     0
 }
@@ -80,10 +77,9 @@ pub(crate) fn check_write(rd: u8) -> u8
     if rd == PC { 12 } else { 0 }
 }
 
-// Check 13 of a branch at an address.
-pub(crate) fn check_branch(a: ByteAddress, offset: u8, layout: Layout) -> u8
-    ensures { λ r. ⌜ r ≡ cond (ltb (branchTargetOf a offset .0) (layout .«code_bytes»)) 0 13 ⌝ }
+// Check 13 of a branch that goes to an address.
+pub(crate) fn check_target(target: ByteAddress, layout: Layout) -> u8
+    ensures { λ r. ⌜ r ≡ cond (ltb (target .0) (layout .«code_bytes»)) 0 13 ⌝ }
 {
-    let target = units::branch_target(a, offset);
     if target.0 < layout.code_bytes { 0 } else { 13 }
 }

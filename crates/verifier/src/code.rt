@@ -1,28 +1,23 @@
-// The code of a file by the byte in the file where each halfword stands: a walk
-// goes from one to the next without a division.
-use image::BLOCK_BYTES;
-use image::HEADER_BYTES;
+// The code of a file by its blocks. Within a block a walk goes from halfword to
+// halfword by two bytes.
+use units::InstructionIndex;
 ghost use mathlib.Core.Path.{_≡_};
-ghost use Prim.Native.Nat.{_+_, _<_};
-ghost use Rattle.verifier.specs.Position.{positionAfter};
+ghost use Prim.Native.Nat.{_<_};
+ghost use Rattle.verifier.specs.Position.{blockEnd};
 
-// Where the first halfword stands, behind the header of block 0.
-pub const FIRST_POSITION: usize = HEADER_BYTES;
+// Where the first halfword of block 0 stands, behind its header.
+pub const FIRST_POSITION: usize = image::HEADER_BYTES;
 
-// Where in a block its last code halfword stands, and how far from it the next
-// block's first: the block's sum and the next block's header lie between.
-const LAST_IN_BLOCK: usize = BLOCK_BYTES - 4;
+const BLOCK_CODE: u16 = image::BLOCK_CODE as u16;
 
-const GAP: usize = 4 + HEADER_BYTES;
-
-// Where the code halfword after the one at byte `p` stands.
-pub(crate) fn position_after(p: usize) -> usize
-    requires { ⌜ p < 65536 ⌝ }
-    ensures { λ r. ⌜ r ≡ positionAfter p ⌝ }
+// The number behind the last instruction of the block that starts with
+// instruction `i`, in a code of `count`.
+pub(crate) fn block_end(i: InstructionIndex, count: InstructionIndex) -> InstructionIndex
+    requires { ⌜ i .0 < count .0 ⌝ }
+    ensures { λ r. ⌜ r .0 ≡ blockEnd (i .0) (count .0) ⌝ }
 {
-    if p % BLOCK_BYTES == LAST_IN_BLOCK {
-        p + GAP
-    } else {
-        p + 2
+    if count.0 - i.0 < BLOCK_CODE {
+        return count;
     }
+    InstructionIndex(i.0 + BLOCK_CODE)
 }

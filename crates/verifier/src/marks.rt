@@ -2,13 +2,14 @@
 use super::branch::Target;
 use super::branch::jump;
 use super::code::FIRST_POSITION;
-use super::code::position_after;
+use super::code::block_end;
+use image::BLOCK_BYTES;
 use image::Checked;
 use image::Layout;
 use units::ByteAddress;
 use units::InstructionIndex;
 use units::halfword_at;
-ghost use mathlib.Core.Bool.{_||_};
+ghost use mathlib.Core.Bool.{false, _||_};
 ghost use mathlib.Core.Path.{_≡_};
 ghost use Prim.Native.Nat.{ℕ, _<_};
 ghost use lib.Dec.{eqb};
@@ -18,7 +19,8 @@ ghost use Rattle.isa.specs.Decode.{decodeOf};
 ghost use Rattle.image.specs.Check.{checkOf};
 ghost use Rattle.image.specs.Code.{codeOf};
 ghost use Rattle.image.specs.Format.{mostCode};
-ghost use Rattle.verifier.specs.Targets.{jumpAt, landsOn, targeted, markWords, markedAt};
+ghost use Rattle.verifier.specs.Position.{BlockAt, blockEnd};
+ghost use Rattle.verifier.specs.Targets.{jumpAt, landsOn, targetedBelow, targeted, markWords, markedAt};
 
 // The most instructions that a code has: 64 for each word of marks.
 const MOST_CODE: u16 = image::MOST_CODE as u16;
@@ -60,21 +62,47 @@ fn mark_target(marks: &mut [u64; 249], i: InstructionIndex, h: u16)
     }
 }
 
-// The marks of all branch targets of an accepted file's code, forward and
-// backward: bit j is set exactly when some branch of the code goes to j.
-pub(crate) fn mark_targets(file: &[u8], layout: Layout) -> [u64; 249]
+// Marks what the branches of a block go to. Its code starts with instruction
+// `start`, at byte `first` of the file.
+fn mark_block(
+    file: &[u8],
+    layout: Layout,
+    start: InstructionIndex,
+    first: usize,
+    marks: &mut [u64; 249],
+)
     requires { ⌜ checkOf (now file) ≡ Checked.Valid layout ⌝ }
-    ensures { λ r. ⌜ ((j : ℕ) → j < mostCode → markedAt r j ≡ targeted (codeOf (now (file .entry))) j) ⌝ }
+    requires { ⌜ (start .0 < length (codeOf (now file))) × BlockAt (start .0) first ⌝ }
+    requires { ⌜ (length (now marks) ≡ markWords) × ((j : ℕ) → j < mostCode → markedAt (now marks) j ≡ targetedBelow (codeOf (now file)) (start .0) j) ⌝ }
+    ensures { λ _. ⌜ length (now (marks .exit)) ≡ markWords ⌝ }
+    ensures { λ _. ⌜ ((j : ℕ) → j < mostCode → markedAt (now (marks .exit)) j ≡ targetedBelow (codeOf (now (file .entry))) (blockEnd (start .0) (length (codeOf (now (file .entry))))) j) ⌝ }
 {
     let count = units::instruction_index(ByteAddress(layout.code_bytes));
-    let mut marks = [0u64; 249];
+    let end = block_end(start, count);
+    let mut i = start;
+    let mut position = first;
+    while i.0 < end.0 {
+        let h = halfword_at(file, position);
+        mark_target(marks, i, h);
+        position += 2;
+        i = InstructionIndex(i.0 + 1);
+    }
+}
+
+// Marks all branch targets of an accepted file's code, forward and backward,
+// where nothing is marked yet: then bit j is set exactly when some branch of the
+// code goes to j. The marks are borrowed, since an answer of 2 KB would be copied.
+pub(crate) fn mark_targets(file: &[u8], layout: Layout, marks: &mut [u64; 249])
+    requires { ⌜ checkOf (now file) ≡ Checked.Valid layout ⌝ }
+    requires { ⌜ (length (now marks) ≡ markWords) × ((j : ℕ) → markedAt (now marks) j ≡ false) ⌝ }
+    ensures { λ _. ⌜ ((j : ℕ) → j < mostCode → markedAt (now (marks .exit)) j ≡ targeted (codeOf (now (file .entry))) j) ⌝ }
+{
+    let count = units::instruction_index(ByteAddress(layout.code_bytes));
     let mut i = InstructionIndex(0);
     let mut position = FIRST_POSITION;
     while i.0 < count.0 {
-        let h = halfword_at(file, position);
-        mark_target(&mut marks, i, h);
-        position = position_after(position);
-        i = InstructionIndex(i.0 + 1);
+        mark_block(file, layout, i, position, marks);
+        position += BLOCK_BYTES;
+        i = block_end(i, count);
     }
-    marks
 }

@@ -1,10 +1,13 @@
 // What is done at an instruction: its checks, and the state behind it. A halfword
-// goes by its top five bits to what its format asks; an enum of instructions
-// between the two would go through memory.
-use super::checks::check_branch;
+// goes by its bits to what its format asks; an enum of instructions between the
+// two would go through memory. Branches, operations on registers, loads and
+// stores are told by tests: a processor foresees a test better than one way more
+// out of a table.
+use super::branch::Target;
+use super::branch::jump;
 use super::checks::check_byte;
 use super::checks::check_halfword;
-use super::checks::check_last;
+use super::checks::check_target;
 use super::checks::check_write;
 use super::state::set_value;
 use super::state::value_at;
@@ -15,16 +18,20 @@ ghost use mathlib.Core.Path.{_≡_};
 ghost use lib.ListN.{length, set};
 ghost use Rattle.units.specs.Address.{pcSum};
 ghost use Rattle.units.specs.Field.{field};
-ghost use Rattle.isa.specs.Decode.{haltOf, aluOf, highOf, registersOf, branchOf, decodeOf};
+ghost use Rattle.isa.specs.Decode.{haltOf, aluOf, highOf, registersOf, memoryOf, decodeOf};
 ghost use Rattle.domain.specs.Value.{exactlyOf};
-ghost use Rattle.image.specs.Check.{firstNo};
 ghost use Rattle.verifier.specs.State.{State, registerCount, afterOf};
+ghost use Rattle.verifier.specs.Targets.{jumpAt};
 ghost use Rattle.verifier.specs.Words.{stateOf};
 ghost use Rattle.verifier.specs.Numbers.{numberOf};
-ghost use Rattle.verifier.specs.Questions.{halfwordChecks, answerAt};
 
 // Check 9 of a halfword that is no instruction.
 const UNDEFINED: u8 = 9;
+
+// The top three bits of operations on registers, and of loads and stores.
+const REGISTER_FORMAT: u8 = 2;
+
+const MEMORY_FORMAT: u8 = 3;
 
 fn visit_halt(h: u16) -> u8
     ensures { λ r. ⌜ ((s : State) (layout : Layout) (a : ByteAddress) → r ≡ numberOf s layout a (haltOf h)) ⌝ }
@@ -70,42 +77,50 @@ fn visit_alu(state: &mut [u64; 16], h: u16) -> u8
     }
 }
 
+// CMP of two registers of which one is high: bits 9 to 6 are 01 with H1, H2 or
+// both behind it. With two low registers, or with bit 9 set, it is no instruction.
+fn visit_compare(h: u16) -> u8
+    requires { ⌜ field h 8 1 ≡ 1 ⌝ }
+    ensures { λ r. ⌜ ((s : State) (layout : Layout) (a : ByteAddress) → r ≡ numberOf s layout a (highOf h)) × ((s : State) (a : ByteAddress) → s ≡ afterOf a (highOf h) s) ⌝ }
+{
+    let operation = units::bits(h, 6, 4);
+    if operation < 5 {
+        return UNDEFINED;
+    }
+    if operation > 7 {
+        return UNDEFINED;
+    }
+    0
+}
+
+// ADD, MOV and CMP of any registers.
 fn visit_high(state: &mut [u64; 16], h: u16) -> u8
     requires { ⌜ length (now state) ≡ registerCount ⌝ }
     ensures { λ r. ⌜ ((s : State) (layout : Layout) (a : ByteAddress) → r ≡ numberOf s layout a (highOf h)) × ((a : ByteAddress) → stateOf (now (state .exit)) ≡ afterOf a (highOf h) (stateOf (now (state .entry)))) ⌝ }
 {
+    if units::bits(h, 8, 1) == 1 {
+        return visit_compare(h);
+    }
     let rd = units::high_rd(h);
     let s = value_at(state, units::high_rs(h));
-    match units::bits(h, 8, 2) {
-        0 => {
-            let d = value_at(state, rd);
-            set_value(state, rd, domain::add(d, s));
-            check_write(rd)
-        }
-        1 => {
-            if units::bits(h, 6, 2) == 0 {
-                UNDEFINED
-            } else {
-                0
-            }
-        }
-        2 => {
-            set_value(state, rd, s);
-            check_write(rd)
-        }
-        _ => UNDEFINED,
+    if units::bits(h, 9, 1) == 1 {
+        set_value(state, rd, s);
+        return check_write(rd);
     }
+    let d = value_at(state, rd);
+    set_value(state, rd, domain::add(d, s));
+    check_write(rd)
 }
 
-// The two formats above, by the bit in which they differ.
+// The operations on registers, in two formats.
 fn visit_registers(state: &mut [u64; 16], h: u16) -> u8
-    requires { ⌜ (length (now state) ≡ registerCount) × (field h 11 2 ≡ 0) ⌝ }
+    requires { ⌜ length (now state) ≡ registerCount ⌝ }
     ensures { λ r. ⌜ ((s : State) (layout : Layout) (a : ByteAddress) → r ≡ numberOf s layout a (registersOf h)) × ((a : ByteAddress) → stateOf (now (state .exit)) ≡ afterOf a (registersOf h) (stateOf (now (state .entry)))) ⌝ }
 {
-    if units::bits(h, 10, 1) == 0 {
-        visit_alu(state, h)
-    } else {
-        visit_high(state, h)
+    match units::bits(h, 10, 3) {
+        0 => visit_alu(state, h),
+        1 => visit_high(state, h),
+        _ => UNDEFINED,
     }
 }
 
@@ -124,25 +139,55 @@ fn add_pc(state: &mut [u64; 16], a: ByteAddress, h: u16)
     set_value(state, units::bits(h, 8, 3), domain::exactly(sum));
 }
 
-// A branch by one of the upper conditions, or a halfword with the number of
-// none.
-fn visit_branch(layout: Layout, a: ByteAddress, h: u16) -> u8
-    requires { ⌜ field h 12 1 ≡ 1 ⌝ }
-    ensures { λ r. ⌜ ((s : State) → r ≡ numberOf s layout a (branchOf h)) ⌝ }
+// STR and LDR, which bit 11 tells apart. A store leaves every value as it is.
+fn visit_halfword(state: &mut [u64; 16], layout: Layout, h: u16) -> u8
+    requires { ⌜ (length (now state) ≡ registerCount) × (field h 12 1 ≡ 0) ⌝ }
+    ensures { λ r. ⌜ ((a : ByteAddress) → r ≡ numberOf (stateOf (now (state .entry))) layout a (memoryOf h)) × ((a : ByteAddress) → stateOf (now (state .exit)) ≡ afterOf a (memoryOf h) (stateOf (now (state .entry)))) ⌝ }
 {
-    if units::bits(h, 8, 4) < 14 {
-        check_branch(a, units::bits(h, 0, 8), layout)
+    let no = check_halfword(state, layout, h);
+    if units::bits(h, 11, 1) == 0 {
+        return no;
+    }
+    load(state, h, domain::unknown());
+    no
+}
+
+// STRB and LDRB, likewise.
+fn visit_byte(state: &mut [u64; 16], layout: Layout, h: u16) -> u8
+    requires { ⌜ (length (now state) ≡ registerCount) × (field h 12 1 ≡ 1) ⌝ }
+    ensures { λ r. ⌜ ((a : ByteAddress) → r ≡ numberOf (stateOf (now (state .entry))) layout a (memoryOf h)) × ((a : ByteAddress) → stateOf (now (state .exit)) ≡ afterOf a (memoryOf h) (stateOf (now (state .entry)))) ⌝ }
+{
+    let no = check_byte(state, layout, h);
+    if units::bits(h, 11, 1) == 0 {
+        return no;
+    }
+    load(state, h, domain::byte());
+    no
+}
+
+// Loads and stores.
+fn visit_memory(state: &mut [u64; 16], layout: Layout, h: u16) -> u8
+    requires { ⌜ length (now state) ≡ registerCount ⌝ }
+    ensures { λ r. ⌜ ((a : ByteAddress) → r ≡ numberOf (stateOf (now (state .entry))) layout a (memoryOf h)) × ((a : ByteAddress) → stateOf (now (state .exit)) ≡ afterOf a (memoryOf h) (stateOf (now (state .entry)))) ⌝ }
+{
+    if units::bits(h, 12, 1) == 0 {
+        visit_halfword(state, layout, h)
     } else {
-        UNDEFINED
+        visit_byte(state, layout, h)
     }
 }
 
-// Checks 9 to 13 of the halfword at an address, and the state behind it. Its top
-// five bits tell its format; of a branch they tell the half of the conditions.
-fn visit(state: &mut [u64; 16], layout: Layout, a: ByteAddress, h: u16) -> u8
-    requires { ⌜ length (now state) ≡ registerCount ⌝ }
+// Checks 9 to 12 of a halfword that is no branch, and the state behind it.
+fn visit_straight(state: &mut [u64; 16], layout: Layout, a: ByteAddress, h: u16) -> u8
+    requires { ⌜ (length (now state) ≡ registerCount) × (jumpAt a (decodeOf h) ≡ Target.Nowhere) ⌝ }
     ensures { λ r. ⌜ (r ≡ numberOf (stateOf (now (state .entry))) layout a (decodeOf h)) × (stateOf (now (state .exit)) ≡ afterOf a (decodeOf h) (stateOf (now (state .entry)))) ⌝ }
 {
+    if units::bits(h, 13, 3) == REGISTER_FORMAT {
+        return visit_registers(state, h);
+    }
+    if units::bits(h, 13, 3) == MEMORY_FORMAT {
+        return visit_memory(state, layout, h);
+    }
     match units::bits(h, 11, 5) {
         0 => visit_halt(h),
         4 => {
@@ -151,43 +196,22 @@ fn visit(state: &mut [u64; 16], layout: Layout, a: ByteAddress, h: u16) -> u8
         }
         // CMP of an immediate leaves every value as it is
         5 => 0,
-        8 => visit_registers(state, h),
-        12 => check_halfword(state, layout, h),
-        13 => {
-            let no = check_halfword(state, layout, h);
-            load(state, h, domain::unknown());
-            no
-        }
-        14 => check_byte(state, layout, h),
-        15 => {
-            let no = check_byte(state, layout, h);
-            load(state, h, domain::byte());
-            no
-        }
         20 => {
             add_pc(state, a, h);
             0
         }
-        26 => check_branch(a, units::bits(h, 0, 8), layout),
-        27 => visit_branch(layout, a, h),
         _ => UNDEFINED,
     }
 }
 
-// The same with check 14, which comes last.
-pub(crate) fn first_no(
-    state: &mut [u64; 16],
-    layout: Layout,
-    a: ByteAddress,
-    is_last: bool,
-    h: u16,
-) -> u8
+// Checks 9 to 13 of the halfword at an address, and the state behind it, which a
+// branch leaves as it is.
+pub(crate) fn visit(state: &mut [u64; 16], layout: Layout, a: ByteAddress, h: u16) -> u8
     requires { ⌜ length (now state) ≡ registerCount ⌝ }
-    ensures { λ r. ⌜ (answerAt a r ≡ firstNo (halfwordChecks (stateOf (now (state .entry))) layout a «is_last» h (decodeOf h))) × (stateOf (now (state .exit)) ≡ afterOf a (decodeOf h) (stateOf (now (state .entry)))) ⌝ }
+    ensures { λ r. ⌜ (r ≡ numberOf (stateOf (now (state .entry))) layout a (decodeOf h)) × (stateOf (now (state .exit)) ≡ afterOf a (decodeOf h) (stateOf (now (state .entry)))) ⌝ }
 {
-    let no = visit(state, layout, a, h);
-    if no != 0 {
-        return no;
-    }
-    check_last(is_last, h)
+    let Target::To(target) = jump(a, h) else {
+        return visit_straight(state, layout, a, h);
+    };
+    check_target(target, layout)
 }

@@ -1,0 +1,31 @@
+-- `visit_byte` is right because its check is that of both, and bit 11 tells whether the register is written.
+use mathlib.Core.Path.{_≡_, _∙_}
+use native.Mathlib.Omega.{arith}
+use Rattle.units.specs.Field.{field}
+use Rattle.verifier.proofs.Memory.{parts}
+use borrow.Author.Needs.{needs}
+use Rattle.verifier.proofs.visits.visit_byte.Statement.{statement}
+use Rattle.verifier.proofs.visits.visit_byte.Tie as tie
+
+returns : tie.Need-returns
+returns c =
+    let m = c .before .before .before .before in
+    let e : field (m .args .h) 11 2 ≡ 2 = omega (arith, parts (m .args .h), m .pre .1, c .before .bits .ensures) in
+    (λ a. simp e (c .before .before .check-byte .ensures a), λ a. simp e)
+
+returns-2 : tie.Need-returns-2
+returns-2 c =
+    let m = c .before .before .before .before .before .before .before in
+    let e : field (m .args .h) 11 2 ≡ 3 = omega (arith, parts (m .args .h), m .pre .1, c .before .before .before .before .bits .ensures) in
+    (λ a. simp e (c .before .before .before .before .before .check-byte .ensures a), λ a. c .load .ensures ∙ simp (e, c .before .byte .ensures))
+
+pub visit-byte-spec : {M : Type 1} → statement M
+visit-byte-spec =
+    tie.close
+    (tie.spec
+    (λ c κs. search needs)
+    (λ c κs. search needs)
+    returns
+    (λ c κs. search needs)
+    (λ c κs. search needs)
+    returns-2)
