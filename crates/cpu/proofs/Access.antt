@@ -13,7 +13,7 @@ use Rattle.cpu.specs.declared.outcome.Outcome.{Outcome}
 use Rattle.cpu.specs.declared.outcome.Outcome.the-variants.{Completed, Stopped}
 use Rattle.cpu.specs.Machine.{machine, advanced, written}
 use Rattle.cpu.specs.Step.{stepResult, ldrOf, strOf, strbOf}
-use Rattle.cpu.specs.Held.{statusIn, flagsIn, held, control, Whole, Holds, Leads}
+use Rattle.cpu.specs.Held.{flagsIn, held, moved, Flagged, Whole, Holds, Leads}
 use Rattle.cpu.proofs.Ends.{low-is, advance-holds}
 
 -- a control, and an ending beside it
@@ -31,6 +31,13 @@ pub stays : (regs memory : List ℕ) (e : Executed) (k : Control) (outcome : Out
 stays regs memory e k outcome gave whole = leads regs memory e k outcome (held regs k) gave (record { machine = refl; whole = whole })
 
 module _ (regs memory : List ℕ) (k : Control) (offset rb rd a : ℕ) (e : Executed) (whole : Whole regs) (low-base : rb < 8) where
+  -- the PC has moved on, and nothing else
+  abbrev next : Control
+  next = moved (wrap (k .pc + 2)) k
+
+  advanced-holds : Holds regs next (machine (advanced (set regs 15 (k .pc))) (flagsIn k))
+  advanced-holds = advance-holds regs k next whole k (flagsIn k) refl (record { pc = refl; flags = refl })
+
   module _ (address : a ≡ wrap (getD regs rb 0 + 4 * offset)) where
     pub ldr-stops : (a % 4 ≡ 0 → ⊥) → Gave e k (Stopped 20) → Leads regs e memory (ldrOf offset rb rd (held regs k) memory)
     unfolding ldrOf
@@ -38,11 +45,11 @@ module _ (regs memory : List ℕ) (k : Control) (offset rb rd a : ℕ) (e : Exec
         simp (low-is regs (k .pc) whole rb low-base, ← address, ne-eqb (a % 4) 0 odd) (stays regs memory e k (Stopped 20) gave whole)
 
     pub ldr-completes : a % 4 ≡ 0 → (regs′ : List ℕ) (k′ : Control) (x : ℕ) → Gave e k′ Completed → x ≡ halfwordAt memory a
-        → Holds regs′ k′ (machine (written (set regs 15 (k .pc)) rd x) (flagsIn (statusIn k))) → Leads regs′ e memory (ldrOf offset rb rd (held regs k) memory)
+        → Holds regs′ k′ (machine (written (set regs 15 (k .pc)) rd x) (flagsIn k)) → Leads regs′ e memory (ldrOf offset rb rd (held regs k) memory)
     unfolding ldrOf
     ldr-completes even regs′ k′ x gave loaded holds =
         simp (low-is regs (k .pc) whole rb low-base, ← address, eq-eqb (a % 4) 0 even, ← loaded)
-        (leads regs′ memory e k′ Completed (machine (written (set regs 15 (k .pc)) rd x) (flagsIn (statusIn k))) gave holds)
+        (leads regs′ memory e k′ Completed (machine (written (set regs 15 (k .pc)) rd x) (flagsIn k)) gave holds)
 
     module _ (low : rd < 8) where
       pub str-stops : (a % 4 ≡ 0 → ⊥) → Gave e k (Stopped 20) → Leads regs e memory (strOf offset rb rd (held regs k) memory)
@@ -50,18 +57,16 @@ module _ (regs memory : List ℕ) (k : Control) (offset rb rd a : ℕ) (e : Exec
       str-stops odd gave =
           simp (low-is regs (k .pc) whole rb low-base, ← address, ne-eqb (a % 4) 0 odd) (stays regs memory e k (Stopped 20) gave whole)
 
-      pub str-completes : a % 4 ≡ 0 → (memory′ : List ℕ) → Gave e (control (wrap (k .pc + 2)) (statusIn k)) Completed
+      pub str-completes : a % 4 ≡ 0 → (memory′ : List ℕ) → Gave e next Completed
           → memory′ ≡ withHalfword memory a (getD regs rd 0) → Leads regs e memory′ (strOf offset rb rd (held regs k) memory)
       unfolding strOf
       str-completes even memory′ gave stored =
           simp (low-is regs (k .pc) whole rb low-base, low-is regs (k .pc) whole rd low, ← address, eq-eqb (a % 4) 0 even, ← stored)
-          (leads regs memory′ e (control (wrap (k .pc + 2)) (statusIn k)) Completed (machine (advanced (set regs 15 (k .pc))) (flagsIn (statusIn k))) gave
-          (advance-holds regs (k .pc) whole _ (statusIn k) _ refl refl))
+          (leads regs memory′ e next Completed (machine (advanced (set regs 15 (k .pc))) (flagsIn k)) gave advanced-holds)
 
-  pub strb-completes : a ≡ wrap (getD regs rb 0 + offset) → rd < 8 → (memory′ : List ℕ) → Gave e (control (wrap (k .pc + 2)) (statusIn k)) Completed
+  pub strb-completes : a ≡ wrap (getD regs rb 0 + offset) → rd < 8 → (memory′ : List ℕ) → Gave e next Completed
       → memory′ ≡ withByte memory a (getD regs rd 0) → Leads regs e memory′ (strbOf offset rb rd (held regs k) memory)
   unfolding strbOf
   strb-completes address low memory′ gave stored =
       simp (low-is regs (k .pc) whole rb low-base, low-is regs (k .pc) whole rd low, ← address, ← stored)
-      (leads regs memory′ e (control (wrap (k .pc + 2)) (statusIn k)) Completed (machine (advanced (set regs 15 (k .pc))) (flagsIn (statusIn k))) gave
-      (advance-holds regs (k .pc) whole _ (statusIn k) _ refl refl))
+      (leads regs memory′ e next Completed (machine (advanced (set regs 15 (k .pc))) (flagsIn k)) gave advanced-holds)

@@ -1,25 +1,27 @@
 -- How the function of a halfword's format ends.
-use Prim.Native.Nat.{ℕ, _+_}
+use Prim.Native.Nat.{ℕ, _+_, _<_}
 use mathlib.Core.Bool.{Bool, true, false}
 use mathlib.Core.List.{List}
 use mathlib.Core.Path.{_≡_, refl, sym, _∙_}
 use lib.Seq.{set-set}
 use borrow.Author.Tests.{eq-eqb, ne-eqb}
 use Rattle.units.specs.Address.{wrap, branchTargetOf}
-use Rattle.units.specs.declared.address.ByteAddress.{ByteAddress}
+use Rattle.units.specs.Field.{field}
 use Rattle.isa.specs.Decode.{haltOf}
 use Rattle.isa.specs.declared.decoder.Decoded.{Decoded}
 use Rattle.isa.specs.declared.decoder.Decoded.the-variants.{Defined, Undefined}
 use Rattle.isa.specs.declared.instruction.Instruction.{Instruction}
+use Rattle.isa.specs.declared.instruction.Instruction.the-variants.{Branch}
 use Rattle.cpu.specs.declared.held.Control.{Control}
 use Rattle.cpu.specs.declared.held.Executed.{Executed}
 use Rattle.cpu.specs.declared.machine.Machine.{Machine}
 use Rattle.cpu.specs.declared.outcome.Outcome.the-variants.{Completed, Halted, Stopped}
 use Rattle.cpu.specs.Alu.{conditionOf}
 use Rattle.cpu.specs.Step.{stepResult, branchOf as branchStep, executeOf, executeDecoded}
-use Rattle.cpu.specs.Held.{statusIn, flagsIn, held, control, branched, Whole, Holds, Leads, Beside}
+use Rattle.cpu.specs.Held.{flagsIn, held, branched, Whole, Holds, Leads, Beside, branchElse}
 use Rattle.cpu.proofs.Ends.{pc-is, moved-on}
 use Rattle.cpu.proofs.Access.{Gave, leads, stays}
+use Rattle.cpu.proofs.Dispatch.{is-branch}
 
 -- a halfword whose meaning is known
 pub leads-as : (d known : Decoded) (regs memory′ memory : List ℕ) (e : Executed) (m : Machine) → d ≡ known
@@ -38,27 +40,26 @@ none d regs memory e k is gave whole = rw is (stays regs memory e k (Stopped 19)
 
 pub halts : (h : ℕ) (k : Control) → h ≡ 0 → Beside (record { control = k; outcome = Halted }) k (haltOf h)
 unfolding executeOf
-halts h k is regs whole memory = simp (eq-eqb h 0 is) (record { result = refl; whole = whole })
+halts h k is regs memory whole = simp (eq-eqb h 0 is) (record { result = refl; whole = whole })
 
 pub no-halt : (h : ℕ) (k : Control) (e : Executed) → (h ≡ 0 → ⊥) → Gave e k (Stopped 19) → Beside e k (haltOf h)
-no-halt h k e other gave regs whole memory = simp (ne-eqb h 0 other) (stays regs memory e k (Stopped 19) gave whole)
-
--- a branch that is taken, and one that is not
-module _ (condition offset : ℕ) (k : Control) (test : Bool) (asked : test ≡ conditionOf condition (flagsIn (statusIn k))) where
-  pub taken : test ≡ true → (target : ByteAddress) → target ≡ branchTargetOf (record { 0 = k .pc }) offset
-      → control (target .0) (statusIn k) ≡ branched condition offset k
-  taken t target goes = simp (sym asked ∙ t, goes)
-
-  pub passed : test ≡ false → (k′ : Control) → k′ ≡ control (wrap (k .pc + 2)) (statusIn k) → k′ ≡ branched condition offset k
-  passed t k′ is = simp (sym asked ∙ t, is)
+no-halt h k e other gave regs memory whole = simp (ne-eqb h 0 other) (stays regs memory e k (Stopped 19) gave whole)
 
 -- what a branch leaves beside the registers is what it does
-pub branch-holds : (condition offset : ℕ) (regs : List ℕ) (k k′ : Control) → Whole regs → k′ ≡ branched condition offset k
-    → Holds regs k′ (branchStep condition offset (held regs k))
+pub branch-holds : (condition offset : ℕ) (test : Bool) (regs : List ℕ) (k k′ : Control) → Whole regs → test ≡ conditionOf condition (flagsIn k)
+    → k′ ≡ branched test offset k → Holds regs k′ (branchStep condition offset (held regs k))
 unfolding branchStep
-branch-holds condition offset regs k k′ whole is = record { machine = rw is (go (conditionOf condition (flagsIn (statusIn k))) refl); whole = whole }
+branch-holds condition offset test regs k k′ whole asked is = record { machine = rw is (go test refl); whole = whole }
   where
-    go : (t : Bool) → conditionOf condition (flagsIn (statusIn k)) ≡ t → held regs (branched condition offset k) ≡ branchStep condition offset (held regs k)
+    go : (t : Bool) → test ≡ t → held regs (branched test offset k) ≡ branchStep condition offset (held regs k)
     go true e =
-        simp (e, pc-is regs (k .pc) whole, set-set regs 15 (k .pc) (branchTargetOf (record { 0 = k .pc }) offset .0))
-    go false e = simp (e, moved-on regs (k .pc) whole)
+        simp (e, sym asked ∙ e, pc-is regs (k .pc) whole, set-set regs 15 (k .pc) (branchTargetOf (record { 0 = k .pc }) offset .0))
+    go false e = simp (e, sym asked ∙ e, moved-on regs (k .pc) whole)
+
+-- a branch, by its upper byte
+pub branch-arm : (h : ℕ) → h < 65536 → (n : ℕ) → n < 14 → field h 8 8 ≡ 208 + n → (k k′ : Control) (e : Executed) (test : Bool)
+    → test ≡ conditionOf n (flagsIn k) → k′ ≡ branched test (field h 0 8) k → Gave e k′ Completed → Beside e k (branchElse h)
+unfolding executeOf
+branch-arm h fits n small byte k k′ e test asked is gave regs memory whole =
+    arm (branchElse h) (Branch n (field h 0 8)) regs memory e k′ (held regs k) _ (is-branch h fits n small byte) refl gave
+    (branch-holds n (field h 0 8) test regs k k′ whole asked is)

@@ -1,6 +1,7 @@
 pub mod Ends
 pub mod Sums
-pub mod States
+pub mod Turned
 pub mod Access
 pub mod Formats
+pub mod Dispatch
 pub mod Fetch

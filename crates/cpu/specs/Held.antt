@@ -1,34 +1,57 @@
 -- How the code holds a machine while it works: registers in an array, and by value beside it the PC and the flags.
 -- Only contracts of functions that are no entry points speak of it.
-use mathlib.Core.Bool.{cond}
-use mathlib.Core.List.{List, [], _∷_}
+use mathlib.Core.Bool.{Bool, cond, _||_}
+use mathlib.Core.List.{List}
 use mathlib.Core.Path.{_≡_}
-use Prim.Native.Nat.{ℕ, _+_, _%_}
-use lib.Dec.{eqb}
-use lib.ListN.{getD, length, set}
+use Prim.Native.Nat.{ℕ, _+_, _/_, _%_}
+use lib.Dec.{eqb, leb}
+use lib.ListN.{length, set}
 use Rattle.units.specs.Address.{wrap, branchTargetOf}
+use Rattle.units.specs.Field.{field}
+use Rattle.isa.specs.Decode.{only, branchOf, decodeOf}
 use Rattle.isa.specs.declared.decoder.Decoded.{Decoded}
+use Rattle.isa.specs.declared.decoder.Decoded.the-variants.{Undefined}
 use Rattle.cpu.specs.declared.machine.Machine.{Machine}
-use Rattle.cpu.specs.declared.status.Status.{Status}
 use Rattle.cpu.specs.declared.held.Control.{Control}
 use Rattle.cpu.specs.declared.held.Executed.{Executed}
+use Rattle.cpu.specs.declared.status.Status.{Status}
 use Rattle.cpu.specs.Machine.{Flags, machine}
-use Rattle.cpu.specs.Alu.{negative, conditionOf}
+use Rattle.cpu.specs.Alu.{negative}
 use Rattle.cpu.specs.Step.{StepResult, stepResult, executeDecoded}
 
--- N and Z speak of the result that is held
-abbrev pub flagsIn : Status → Flags
-flagsIn s = record { n = negative (s .result); z = eqb (s .result % 65536) 0; c = s .c; v = s .v }
+-- what a sum carried, as a number: 1 into its sign bit, 2 out of it. Out of it
+abbrev pub carriesOut : ℕ → Bool
+carriesOut n = leb 2 n
 
-abbrev pub control : ℕ → Status → Control
-control pc s = record { pc = pc; result = s .result; c = s .c; v = s .v }
+-- just one of the two
+abbrev pub carriesOne : ℕ → Bool
+carriesOne n = eqb n 1 || eqb n 2
 
-abbrev pub statusIn : Control → Status
-statusIn k = record { result = k .result; c = k .c; v = k .v }
+-- N and Z speak of the result that is held, C and V of the carries
+abbrev pub flagsIn : Control → Flags
+flagsIn k = record {
+  n = negative (k .result);
+  z = eqb (k .result % 65536) 0;
+  c = carriesOut (k .carries / 32768);
+  v = carriesOne (k .carries / 32768);
+}
+
+-- and the flags by themselves
+abbrev pub flagsOf : Status → Flags
+flagsOf s = record { n = s .n; z = s .z; c = s .c; v = s .v }
+
+-- the same flags at another PC
+abbrev pub moved : ℕ → Control → Control
+moved pc k = record { pc = pc; result = k .result; carries = k .carries }
+
+-- other flags at the same PC
+pub record Flagged (g k : Control) (f : Flags) : Type 0 where
+  pub pc : g .pc ≡ k .pc
+  pub flags : flagsIn g ≡ f
 
 -- the machine that is held; R15 is the PC beside the array
 abbrev pub held : List ℕ → Control → Machine
-held regs k = machine (set regs 15 (k .pc)) (flagsIn (statusIn k))
+held regs k = machine (set regs 15 (k .pc)) (flagsIn k)
 
 -- the array has all sixteen
 abbrev pub Whole : List ℕ → Type 0
@@ -44,43 +67,17 @@ pub record Leads (regs : List ℕ) (e : Executed) (memory : List ℕ) (r : StepR
   pub result : stepResult (held regs (e .control)) memory (e .outcome) ≡ r
   pub whole : Whole regs
 
--- what an instruction that leaves memory alone does, whatever memory it stands above
-abbrev pub Above : List ℕ → Executed → Decoded → Machine → Type 0
-Above regs e d m = (memory : List ℕ) → Leads regs e memory (executeDecoded d m memory)
-
--- and one that leaves the registers alone as well, whatever they are
+-- what a halfword does that leaves registers and memory alone, whatever they are
 abbrev pub Beside : Executed → Control → Decoded → Type 0
-Beside e k d = (regs : List ℕ) → Whole regs → Above regs e d (held regs k)
+Beside e k d = (regs memory : List ℕ) → Whole regs → Leads regs e memory (executeDecoded d (held regs k) memory)
 
--- the flags as a number of four bits
-abbrev pub stateOf : Flags → ℕ
-stateOf f = cond (f .n) 8 0 + cond (f .z) 4 0 + cond (f .c) 2 0 + cond (f .v) 1 0
+-- what a branch leaves beside the registers, taken or not
+abbrev pub branched : Bool → ℕ → Control → Control
+branched holds offset k = moved (cond holds (branchTargetOf (record { 0 = k .pc }) offset .0) (wrap (k .pc + 2))) k
 
--- for each condition, a bit for each state of the flags: set where it holds
-abbrev pub stateTable : List ℕ
-stateTable =
-    0xF0F0
-    ∷ 0x0F0F
-    ∷ 0xCCCC
-    ∷ 0x3333
-    ∷ 0xFF00
-    ∷ 0x00FF
-    ∷ 0xAAAA
-    ∷ 0x5555
-    ∷ 0x0C0C
-    ∷ 0xF3F3
-    ∷ 0xAA55
-    ∷ 0x55AA
-    ∷ 0x0A05
-    ∷ 0xF5FA
-    ∷ []
+-- what a halfword says where all formats but the branch's have been looked at, and where all but those of registers are left
+abbrev pub branchElse : ℕ → Decoded
+branchElse h = only (eqb (field h 13 3) 6) (branchOf h)
 
-abbrev pub statesOf : ℕ → ℕ
-statesOf k = getD stateTable k 0
-
--- what a branch leaves beside the registers
-abbrev pub branched : ℕ → ℕ → Control → Control
-branched condition offset k =
-    control
-    (cond (conditionOf condition (flagsIn (statusIn k))) (branchTargetOf (record { 0 = k .pc }) offset .0) (wrap (k .pc + 2)))
-    (statusIn k)
+abbrev pub otherElse : ℕ → Decoded
+otherElse h = cond (eqb (field h 13 3) 2) Undefined (decodeOf h)

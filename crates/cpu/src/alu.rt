@@ -1,20 +1,23 @@
 // Results and flags. Sums, and differences as sums with the negated operand,
 // are the standard library's wrapping addition.
-use super::status::Status;
-ghost use mathlib.Core.Bool.{_&&_};
+use super::conditions::is_carry;
+use super::conditions::is_overflow;
+use super::held::Control;
+use super::status::carries_of;
 ghost use mathlib.Core.Path.{_≡_};
 ghost use Prim.Native.Nat.{_<_};
-ghost use Rattle.cpu.specs.Alu.{resultFlags, signsDiffer, sumOf, sumFlags, differenceOf, differenceFlags, shiftedOf, shiftOf, shiftCarry, shiftFlags};
-ghost use Rattle.cpu.specs.Held.{flagsIn};
+ghost use lib.Bits.{bitXor};
+ghost use Rattle.cpu.specs.Alu.{resultFlags, sumOf, sumFlags, differenceOf, differenceFlags, shiftedOf, shiftOf, shiftCarry, shiftFlags};
+ghost use Rattle.cpu.specs.Held.{flagsIn, Flagged};
 
 // N and Z of a result.
-pub(crate) fn result_status(r: u16, s: Status) -> Status
-    ensures { λ g. ⌜ flagsIn g ≡ resultFlags r (flagsIn s) ⌝ }
+pub(crate) fn result_flags(k: Control, r: u16) -> Control
+    ensures { λ g. ⌜ Flagged g k (resultFlags r (flagsIn k)) ⌝ }
 {
-    Status {
+    Control {
+        pc: k.pc,
         result: r as u32,
-        c: s.c,
-        v: s.v,
+        carries: k.carries,
     }
 }
 
@@ -31,51 +34,49 @@ pub(crate) fn difference(a: u16, b: u16) -> u16
     std::num::wrapping_add_u16(a, negated)
 }
 
-// Whether two numbers have different signs.
-fn signs_differ(a: u16, b: u16) -> bool
-    ensures { λ r. ⌜ r ≡ signsDiffer a b ⌝ }
+// What the sum s of a and b carried: a digit of it differs from those of a and
+// b together where something came into it.
+fn carries(a: u32, b: u32, s: u32) -> u32
+    ensures { λ r. ⌜ r ≡ bitXor (bitXor a b) s ⌝ }
 {
-    (a >= 0x8000) != (b >= 0x8000)
+    a ^ b ^ s
 }
 
-fn both(a: bool, b: bool) -> bool
-    ensures { λ r. ⌜ r ≡ (a && b) ⌝ }
-{
-    a && b
-}
-
-// The flags of a sum r of a and b: it wrapped where it is below a.
-pub(crate) fn sum_status(a: u16, b: u16, r: u16) -> Status
+// The flags of a sum r of a and b.
+pub(crate) fn sum_flags(k: Control, a: u16, b: u16, r: u16) -> Control
     requires { ⌜ r ≡ sumOf a b ⌝ }
-    ensures { λ g. ⌜ flagsIn g ≡ sumFlags a b ⌝ }
+    ensures { λ g. ⌜ Flagged g k (sumFlags a b) ⌝ }
 {
-    let v = both(signs_differ(a, r), signs_differ(b, r));
-    Status {
+    let x = a as u32;
+    let y = b as u32;
+    Control {
+        pc: k.pc,
         result: r as u32,
-        c: r < a,
-        v,
+        carries: carries(x, y, x + y),
     }
 }
 
-// The flags of a difference r of a and b.
-pub(crate) fn difference_status(a: u16, b: u16, r: u16) -> Status
+// The flags of a difference r of a and b: those of the sum of a, b with every
+// bit the other way round, and 1.
+pub(crate) fn difference_flags(k: Control, a: u16, b: u16, r: u16) -> Control
     requires { ⌜ r ≡ differenceOf a b ⌝ }
-    ensures { λ g. ⌜ flagsIn g ≡ differenceFlags a b ⌝ }
+    ensures { λ g. ⌜ Flagged g k (differenceFlags a b) ⌝ }
 {
-    let v = both(signs_differ(a, b), signs_differ(a, r));
-    Status {
+    let x = a as u32;
+    let y = b as u32;
+    Control {
+        pc: k.pc,
         result: r as u32,
-        c: b <= a,
-        v,
+        carries: carries(x, 65535 - y, x + 65536 - y),
     }
 }
 
 // The flags of a - b, of which a comparison keeps nothing else.
-pub(crate) fn compare(a: u16, b: u16) -> Status
-    ensures { λ g. ⌜ flagsIn g ≡ differenceFlags a b ⌝ }
+pub(crate) fn compare(k: Control, a: u16, b: u16) -> Control
+    ensures { λ g. ⌜ Flagged g k (differenceFlags a b) ⌝ }
 {
     let r = difference(a, b);
-    difference_status(a, b, r)
+    difference_flags(k, a, b, r)
 }
 
 // a shifted right by k bits with its sign coming in.
@@ -115,15 +116,16 @@ fn shift_carry(a: u16, k: u16, c: bool) -> bool
     }
 }
 
-// The flags of ASR's result r of a and k.
-pub(crate) fn shift_status(a: u16, k: u16, r: u16, s: Status) -> Status
-    requires { ⌜ r ≡ shiftOf a k ⌝ }
-    ensures { λ g. ⌜ flagsIn g ≡ shiftFlags a k (flagsIn s) ⌝ }
+// The flags of ASR's result r of a and n.
+pub(crate) fn shift_flags(k: Control, a: u16, n: u16, r: u16) -> Control
+    requires { ⌜ r ≡ shiftOf a n ⌝ }
+    ensures { λ g. ⌜ Flagged g k (shiftFlags a n (flagsIn k)) ⌝ }
 {
-    let c = shift_carry(a, k, s.c);
-    Status {
+    let c = shift_carry(a, n, is_carry(k));
+    let v = is_overflow(k);
+    Control {
+        pc: k.pc,
         result: r as u32,
-        c,
-        v: s.v,
+        carries: carries_of(c, v),
     }
 }

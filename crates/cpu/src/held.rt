@@ -1,50 +1,29 @@
 // How a machine is held while instructions run: the registers in an array, the
-// flags and the PC by value beside it. What the array has at 15 doesn't count;
+// PC and the flags by value beside it. What the array has at 15 doesn't count;
 // an instruction that may name R15 first puts the PC there.
 use super::outcome::Outcome;
-use super::status::Status;
 ghost use mathlib.Core.Path.{_≡_};
 ghost use Prim.Native.Nat.{_+_, _<_};
 ghost use lib.ListN.{set};
 ghost use Rattle.units.specs.Address.{wrap};
 ghost use Rattle.cpu.specs.Machine.{machine, written};
-ghost use Rattle.cpu.specs.Held.{flagsIn, statusIn, control, Whole, Holds};
+ghost use Rattle.cpu.specs.Held.{flagsIn, moved, Whole, Holds};
 
-// The PC and the flags. The fields of `Status` stand here one by one: a struct of
-// eight bytes inside another is moved as one word, and packed and unpacked at
-// every step.
+// The PC and the flags, these as what they speak of, so that an instruction
+// which sets them has hardly any work with them and only a branch looks closer.
+// N is set where the result is 0x8000 or more, Z where its low 16 bits are 0. The
+// carries are bits 15 and 16, of what a sum carried into its sign bit and out
+// of it: C is the one out, and V is set where just one of them is there.
 pub struct Control {
     pub pc: u16,
     pub result: u32,
-    pub c: bool,
-    pub v: bool,
+    pub carries: u32,
 }
 
 // What an instruction hands on, and how it ended.
 pub struct Executed {
     pub control: Control,
     pub outcome: Outcome,
-}
-
-pub(crate) fn status_in(k: Control) -> Status
-    ensures { λ s. ⌜ s ≡ statusIn k ⌝ }
-{
-    Status {
-        result: k.result,
-        c: k.c,
-        v: k.v,
-    }
-}
-
-pub(crate) fn control_at(pc: u16, status: Status) -> Control
-    ensures { λ k. ⌜ k ≡ control pc status ⌝ }
-{
-    Control {
-        pc,
-        result: status.result,
-        c: status.c,
-        v: status.v,
-    }
 }
 
 pub(crate) fn completed(k: Control) -> Executed
@@ -66,32 +45,44 @@ pub(crate) fn stopped(k: Control, number: u8) -> Executed
     }
 }
 
-// Ends an instruction that writes no register.
-pub(crate) fn advance(pc: u16, status: Status) -> Control
-    ensures { λ k. ⌜ k ≡ control (wrap (pc + 2)) status ⌝ }
+// The same flags at another PC.
+pub(crate) fn move_to(pc: u16, k: Control) -> Control
+    ensures { λ r. ⌜ r ≡ moved pc k ⌝ }
 {
-    control_at(std::num::wrapping_add_u16(pc, 2), status)
+    Control {
+        pc,
+        result: k.result,
+        carries: k.carries,
+    }
+}
+
+// Ends an instruction that writes no register.
+pub(crate) fn advance(k: Control) -> Control
+    ensures { λ r. ⌜ r ≡ moved (wrap (k .pc + 2)) k ⌝ }
+{
+    move_to(std::num::wrapping_add_u16(k.pc, 2), k)
 }
 
 // Ends an instruction that has a result for one of R0 to R7.
-pub(crate) fn write_low(regs: &mut [u16; 16], pc: u16, rd: u8, x: u16, status: Status) -> Control
+pub(crate) fn write_low(regs: &mut [u16; 16], k: Control, rd: u8, x: u16) -> Control
     requires { ⌜ Whole (now regs) × (rd < 8) ⌝ }
-    ensures { λ k. ⌜ Holds (now (regs .exit)) k (machine (written (set (now (regs .entry)) 15 pc) rd x) (flagsIn status)) ⌝ }
+    ensures { λ r. ⌜ Holds (now (regs .exit)) r (machine (written (set (now (regs .entry)) 15 (k .pc)) rd x) (flagsIn k)) ⌝ }
 {
     regs[rd as usize] = x;
-    advance(pc, status)
+    advance(k)
 }
 
 // Ends an instruction that has a result for any register; one for R15 is the
-// next PC.
-pub(crate) fn write(regs: &mut [u16; 16], pc: u16, rd: u8, x: u16, status: Status) -> Control
+// next PC. The array is written in one arm only: else the compiler chooses
+// between the two PCs with no jump, and each fetch waits for the result.
+pub(crate) fn write(regs: &mut [u16; 16], k: Control, rd: u8, x: u16) -> Control
     requires { ⌜ Whole (now regs) × (rd < 16) ⌝ }
-    ensures { λ k. ⌜ Holds (now (regs .exit)) k (machine (written (set (now (regs .entry)) 15 pc) rd x) (flagsIn status)) ⌝ }
+    ensures { λ r. ⌜ Holds (now (regs .exit)) r (machine (written (set (now (regs .entry)) 15 (k .pc)) rd x) (flagsIn k)) ⌝ }
 {
-    regs[rd as usize] = x;
     if rd == 15 {
-        control_at(x, status)
+        move_to(x, k)
     } else {
-        advance(pc, status)
+        regs[rd as usize] = x;
+        advance(k)
     }
 }

@@ -1,36 +1,36 @@
 // One function an instruction, in the manual's order and named after its page. It
-// takes its fields out of the halfword itself, or is handed them where several
-// instructions have one format.
+// takes its fields out of the halfword itself. ADD and MOV of two of R0 to R7
+// have functions of their own: they have nothing to do with the PC.
 use super::alu::compare;
 use super::alu::difference;
-use super::alu::difference_status;
-use super::alu::result_status;
+use super::alu::difference_flags;
+use super::alu::result_flags;
 use super::alu::shift;
-use super::alu::shift_status;
+use super::alu::shift_flags;
 use super::alu::sum;
-use super::alu::sum_status;
+use super::alu::sum_flags;
 use super::held::Control;
 use super::held::Executed;
 use super::held::advance;
 use super::held::completed;
-use super::held::control_at;
-use super::held::status_in;
+use super::held::move_to;
 use super::held::stopped;
 use super::held::write;
 use super::held::write_low;
 use super::memory::load_byte;
 use super::memory::store_byte;
 use super::outcome::MISALIGNED;
-use super::status::condition;
 use units::ByteAddress;
 use units::bits;
 use units::halfword_at;
+use units::high_rd;
+use units::high_rs;
 use units::put_halfword;
 ghost use mathlib.Core.Path.{_≡_};
 ghost use Prim.Native.Nat.{_+_, _<_};
 ghost use lib.ListN.{getD, length, set};
 ghost use Rattle.units.specs.Address.{wrap, memoryBytes};
-ghost use Rattle.units.specs.Field.{field};
+ghost use Rattle.units.specs.Field.{field, highRs, highRd};
 ghost use Rattle.cpu.specs.Step.{resulting, addHighOf, addPcOf, andOf, asrOf, cmpImmOf, cmpOf, cmpHighOf, eorOf, ldrOf, ldrbOf, movImmOf, movHighOf, negOf, strOf, strbOf, tstOf};
 ghost use Rattle.cpu.specs.Held.{held, branched, Whole, Holds, Leads};
 
@@ -47,19 +47,30 @@ fn leave(regs: &mut [u16; 16], k: Control, rd: u8, r: u16) -> Control
     requires { ⌜ Whole (now regs) × (rd < 8) ⌝ }
     ensures { λ e. ⌜ Holds (now (regs .exit)) e (resulting rd r (held (now (regs .entry)) k)) ⌝ }
 {
-    write_low(regs, k.pc, rd, r, result_status(r, status_in(k)))
+    write_low(regs, result_flags(k, r), rd, r)
 }
 
-// ADD(1).
-pub(crate) fn add_high(regs: &mut [u16; 16], k: Control, rs: u8, rd: u8) -> Control
-    requires { ⌜ Whole (now regs) × (rs < 16) × (rd < 16) ⌝ }
-    ensures { λ r. ⌜ Holds (now (regs .exit)) r (addHighOf rs rd (held (now (regs .entry)) k)) ⌝ }
+// ADD(1) of two of R0 to R7.
+pub(crate) fn add_low(regs: &mut [u16; 16], k: Control, h: u16) -> Control
+    requires { ⌜ Whole (now regs) ⌝ }
+    ensures { λ r. ⌜ Holds (now (regs .exit)) r (addHighOf (field h 3 3) (field h 0 3) (held (now (regs .entry)) k)) ⌝ }
+{
+    let a = regs[bits(h, 0, 3) as usize];
+    let b = regs[bits(h, 3, 3) as usize];
+    let r = sum(a, b);
+    write_low(regs, sum_flags(k, a, b, r), bits(h, 0, 3), r)
+}
+
+// ADD(1) of any two registers.
+pub(crate) fn add_high(regs: &mut [u16; 16], k: Control, h: u16) -> Control
+    requires { ⌜ Whole (now regs) ⌝ }
+    ensures { λ r. ⌜ Holds (now (regs .exit)) r (addHighOf (highRs h) (highRd h) (held (now (regs .entry)) k)) ⌝ }
 {
     show_pc(regs, k);
-    let a = regs[rd as usize];
-    let b = regs[rs as usize];
+    let a = regs[high_rd(h) as usize];
+    let b = regs[high_rs(h) as usize];
     let r = sum(a, b);
-    write(regs, k.pc, rd, r, sum_status(a, b, r))
+    write(regs, sum_flags(k, a, b, r), high_rd(h), r)
 }
 
 // ADD(2).
@@ -68,39 +79,38 @@ pub(crate) fn add_pc(regs: &mut [u16; 16], k: Control, h: u16) -> Control
     ensures { λ r. ⌜ Holds (now (regs .exit)) r (addPcOf (field h 8 3) (field h 0 8) (held (now (regs .entry)) k)) ⌝ }
 {
     let r = units::pc_sum(ByteAddress(k.pc), bits(h, 0, 8));
-    write_low(regs, k.pc, bits(h, 8, 3), r, status_in(k))
+    write_low(regs, k, bits(h, 8, 3), r)
 }
 
 // AND.
-pub(crate) fn and(regs: &mut [u16; 16], k: Control, rs: u8, rd: u8) -> Control
-    requires { ⌜ Whole (now regs) × (rs < 8) × (rd < 8) ⌝ }
-    ensures { λ r. ⌜ Holds (now (regs .exit)) r (andOf rs rd (held (now (regs .entry)) k)) ⌝ }
+pub(crate) fn and(regs: &mut [u16; 16], k: Control, h: u16) -> Control
+    requires { ⌜ Whole (now regs) ⌝ }
+    ensures { λ r. ⌜ Holds (now (regs .exit)) r (andOf (field h 3 3) (field h 0 3) (held (now (regs .entry)) k)) ⌝ }
 {
-    let r = regs[rd as usize] & regs[rs as usize];
-    leave(regs, k, rd, r)
+    let r = regs[bits(h, 0, 3) as usize] & regs[bits(h, 3, 3) as usize];
+    leave(regs, k, bits(h, 0, 3), r)
 }
 
 // ASR: both operands are read before Rd is written.
-pub(crate) fn asr(regs: &mut [u16; 16], k: Control, rs: u8, rd: u8) -> Control
-    requires { ⌜ Whole (now regs) × (rs < 8) × (rd < 8) ⌝ }
-    ensures { λ r. ⌜ Holds (now (regs .exit)) r (asrOf rs rd (held (now (regs .entry)) k)) ⌝ }
+pub(crate) fn asr(regs: &mut [u16; 16], k: Control, h: u16) -> Control
+    requires { ⌜ Whole (now regs) ⌝ }
+    ensures { λ r. ⌜ Holds (now (regs .exit)) r (asrOf (field h 3 3) (field h 0 3) (held (now (regs .entry)) k)) ⌝ }
 {
-    let a = regs[rd as usize];
-    let n = regs[rs as usize] % 256;
+    let a = regs[bits(h, 0, 3) as usize];
+    let n = regs[bits(h, 3, 3) as usize] % 256;
     let r = shift(a, n);
-    write_low(regs, k.pc, rd, r, shift_status(a, n, r, status_in(k)))
+    write_low(regs, shift_flags(k, a, n, r), bits(h, 0, 3), r)
 }
 
 // B: what it leaves beside the registers.
-pub(crate) fn branch(k: Control, cond: u8, offset: u8) -> Control
-    ensures { λ r. ⌜ r ≡ branched cond offset k ⌝ }
+pub(crate) fn branch(k: Control, holds: bool, h: u16) -> Control
+    ensures { λ r. ⌜ r ≡ branched holds (field h 0 8) k ⌝ }
 {
-    let status = status_in(k);
-    if condition(cond, status) {
-        let target = units::branch_target(ByteAddress(k.pc), offset);
-        control_at(target.0, status)
+    if holds {
+        let target = units::branch_target(ByteAddress(k.pc), bits(h, 0, 8));
+        move_to(target.0, k)
     } else {
-        advance(k.pc, status)
+        advance(k)
     }
 }
 
@@ -110,37 +120,37 @@ pub(crate) fn cmp_imm(regs: &[u16; 16], k: Control, h: u16) -> Control
     ensures { λ r. ⌜ Holds (now (regs .entry)) r (cmpImmOf (field h 8 3) (field h 0 8) (held (now (regs .entry)) k)) ⌝ }
 {
     let a = regs[bits(h, 8, 3) as usize];
-    advance(k.pc, compare(a, bits(h, 0, 8) as u16))
+    advance(compare(k, a, bits(h, 0, 8) as u16))
 }
 
 // CMP(2).
-pub(crate) fn cmp(regs: &[u16; 16], k: Control, rs: u8, rd: u8) -> Control
-    requires { ⌜ Whole (now regs) × (rs < 8) × (rd < 8) ⌝ }
-    ensures { λ r. ⌜ Holds (now (regs .entry)) r (cmpOf rs rd (held (now (regs .entry)) k)) ⌝ }
+pub(crate) fn cmp(regs: &[u16; 16], k: Control, h: u16) -> Control
+    requires { ⌜ Whole (now regs) ⌝ }
+    ensures { λ r. ⌜ Holds (now (regs .entry)) r (cmpOf (field h 3 3) (field h 0 3) (held (now (regs .entry)) k)) ⌝ }
 {
-    let a = regs[rd as usize];
-    let b = regs[rs as usize];
-    advance(k.pc, compare(a, b))
+    let a = regs[bits(h, 0, 3) as usize];
+    let b = regs[bits(h, 3, 3) as usize];
+    advance(compare(k, a, b))
 }
 
 // CMP(3).
-pub(crate) fn cmp_high(regs: &mut [u16; 16], k: Control, rs: u8, rd: u8) -> Control
-    requires { ⌜ Whole (now regs) × (rs < 16) × (rd < 16) ⌝ }
-    ensures { λ r. ⌜ Holds (now (regs .exit)) r (cmpHighOf rs rd (held (now (regs .entry)) k)) ⌝ }
+pub(crate) fn cmp_high(regs: &mut [u16; 16], k: Control, h: u16) -> Control
+    requires { ⌜ Whole (now regs) ⌝ }
+    ensures { λ r. ⌜ Holds (now (regs .exit)) r (cmpHighOf (highRs h) (highRd h) (held (now (regs .entry)) k)) ⌝ }
 {
     show_pc(regs, k);
-    let a = regs[rd as usize];
-    let b = regs[rs as usize];
-    advance(k.pc, compare(a, b))
+    let a = regs[high_rd(h) as usize];
+    let b = regs[high_rs(h) as usize];
+    advance(compare(k, a, b))
 }
 
 // EOR.
-pub(crate) fn eor(regs: &mut [u16; 16], k: Control, rs: u8, rd: u8) -> Control
-    requires { ⌜ Whole (now regs) × (rs < 8) × (rd < 8) ⌝ }
-    ensures { λ r. ⌜ Holds (now (regs .exit)) r (eorOf rs rd (held (now (regs .entry)) k)) ⌝ }
+pub(crate) fn eor(regs: &mut [u16; 16], k: Control, h: u16) -> Control
+    requires { ⌜ Whole (now regs) ⌝ }
+    ensures { λ r. ⌜ Holds (now (regs .exit)) r (eorOf (field h 3 3) (field h 0 3) (held (now (regs .entry)) k)) ⌝ }
 {
-    let r = regs[rd as usize] ^ regs[rs as usize];
-    leave(regs, k, rd, r)
+    let r = regs[bits(h, 0, 3) as usize] ^ regs[bits(h, 3, 3) as usize];
+    leave(regs, k, bits(h, 0, 3), r)
 }
 
 // Where a load or a store goes: a distance past its base register.
@@ -162,7 +172,7 @@ pub(crate) fn ldr(regs: &mut [u16; 16], k: Control, memory: &[u8], h: u16) -> Ex
         return stopped(k, MISALIGNED);
     }
     let x = halfword_at(memory, a as usize);
-    completed(write_low(regs, k.pc, bits(h, 0, 3), x, status_in(k)))
+    completed(write_low(regs, k, bits(h, 0, 3), x))
 }
 
 // LDRB.
@@ -172,7 +182,7 @@ pub(crate) fn ldrb(regs: &mut [u16; 16], k: Control, memory: &[u8], h: u16) -> C
 {
     let a = effective_address(regs, h, bits(h, 6, 5) as u16);
     let x = load_byte(memory, a as usize);
-    write_low(regs, k.pc, bits(h, 0, 3), x, status_in(k))
+    write_low(regs, k, bits(h, 0, 3), x)
 }
 
 // MOV(1).
@@ -183,24 +193,33 @@ pub(crate) fn mov_imm(regs: &mut [u16; 16], k: Control, h: u16) -> Control
     leave(regs, k, bits(h, 8, 3), bits(h, 0, 8) as u16)
 }
 
-// MOV(2).
-pub(crate) fn mov_high(regs: &mut [u16; 16], k: Control, rs: u8, rd: u8) -> Control
-    requires { ⌜ Whole (now regs) × (rs < 16) × (rd < 16) ⌝ }
-    ensures { λ r. ⌜ Holds (now (regs .exit)) r (movHighOf rs rd (held (now (regs .entry)) k)) ⌝ }
+// MOV(2) of two of R0 to R7.
+pub(crate) fn mov_low(regs: &mut [u16; 16], k: Control, h: u16) -> Control
+    requires { ⌜ Whole (now regs) ⌝ }
+    ensures { λ r. ⌜ Holds (now (regs .exit)) r (movHighOf (field h 3 3) (field h 0 3) (held (now (regs .entry)) k)) ⌝ }
+{
+    let r = regs[bits(h, 3, 3) as usize];
+    leave(regs, k, bits(h, 0, 3), r)
+}
+
+// MOV(2) of any two registers.
+pub(crate) fn mov_high(regs: &mut [u16; 16], k: Control, h: u16) -> Control
+    requires { ⌜ Whole (now regs) ⌝ }
+    ensures { λ r. ⌜ Holds (now (regs .exit)) r (movHighOf (highRs h) (highRd h) (held (now (regs .entry)) k)) ⌝ }
 {
     show_pc(regs, k);
-    let r = regs[rs as usize];
-    write(regs, k.pc, rd, r, result_status(r, status_in(k)))
+    let r = regs[high_rs(h) as usize];
+    write(regs, result_flags(k, r), high_rd(h), r)
 }
 
 // NEG.
-pub(crate) fn neg(regs: &mut [u16; 16], k: Control, rs: u8, rd: u8) -> Control
-    requires { ⌜ Whole (now regs) × (rs < 8) × (rd < 8) ⌝ }
-    ensures { λ r. ⌜ Holds (now (regs .exit)) r (negOf rs rd (held (now (regs .entry)) k)) ⌝ }
+pub(crate) fn neg(regs: &mut [u16; 16], k: Control, h: u16) -> Control
+    requires { ⌜ Whole (now regs) ⌝ }
+    ensures { λ r. ⌜ Holds (now (regs .exit)) r (negOf (field h 3 3) (field h 0 3) (held (now (regs .entry)) k)) ⌝ }
 {
-    let b = regs[rs as usize];
+    let b = regs[bits(h, 3, 3) as usize];
     let r = difference(0, b);
-    write_low(regs, k.pc, rd, r, difference_status(0, b, r))
+    write_low(regs, difference_flags(k, 0, b, r), bits(h, 0, 3), r)
 }
 
 // STR, or stop 20.
@@ -214,7 +233,7 @@ pub(crate) fn str(regs: &[u16; 16], k: Control, memory: &mut [u8], h: u16) -> Ex
     }
     let x = regs[bits(h, 0, 3) as usize];
     put_halfword(memory, a as usize, x);
-    completed(advance(k.pc, status_in(k)))
+    completed(advance(k))
 }
 
 // STRB.
@@ -225,14 +244,14 @@ pub(crate) fn strb(regs: &[u16; 16], k: Control, memory: &mut [u8], h: u16) -> E
     let a = effective_address(regs, h, bits(h, 6, 5) as u16);
     let x = regs[bits(h, 0, 3) as usize];
     store_byte(memory, a as usize, x);
-    completed(advance(k.pc, status_in(k)))
+    completed(advance(k))
 }
 
 // TST.
-pub(crate) fn tst(regs: &[u16; 16], k: Control, rs: u8, rd: u8) -> Control
-    requires { ⌜ Whole (now regs) × (rs < 8) × (rd < 8) ⌝ }
-    ensures { λ r. ⌜ Holds (now (regs .entry)) r (tstOf rs rd (held (now (regs .entry)) k)) ⌝ }
+pub(crate) fn tst(regs: &[u16; 16], k: Control, h: u16) -> Control
+    requires { ⌜ Whole (now regs) ⌝ }
+    ensures { λ r. ⌜ Holds (now (regs .entry)) r (tstOf (field h 3 3) (field h 0 3) (held (now (regs .entry)) k)) ⌝ }
 {
-    let r = regs[rd as usize] & regs[rs as usize];
-    advance(k.pc, result_status(r, status_in(k)))
+    let r = regs[bits(h, 0, 3) as usize] & regs[bits(h, 3, 3) as usize];
+    advance(result_flags(k, r))
 }

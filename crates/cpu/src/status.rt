@@ -1,64 +1,70 @@
-// The flags while instructions run. N and Z stand as the result that they speak
-// of, so that an instruction which sets them has no work with them: N is set
-// where it is 0x8000 or more, Z where its low 16 bits are 0.
+// The flags by themselves, and as they are held.
+use super::conditions::is_carry;
+use super::conditions::is_negative;
+use super::conditions::is_overflow;
+use super::conditions::is_zero;
+use super::held::Control;
 ghost use mathlib.Core.Path.{_≡_};
-ghost use Rattle.cpu.specs.Alu.{conditionOf};
-ghost use Rattle.cpu.specs.Held.{flagsIn, stateOf, statesOf};
+ghost use Prim.Native.Nat.{_/_, _%_};
+ghost use lib.Dec.{eqb};
+ghost use Rattle.cpu.specs.Alu.{negative};
+ghost use Rattle.cpu.specs.Held.{carriesOut, carriesOne, flagsIn, flagsOf};
 
 pub struct Status {
-    pub result: u32,
+    pub n: bool,
+    pub z: bool,
     pub c: bool,
     pub v: bool,
 }
 
-fn is_negative(s: Status) -> bool
-    ensures { λ r. ⌜ r ≡ flagsIn s .n ⌝ }
+// The flags that are held.
+pub fn status_in(k: Control) -> Status
+    ensures { λ s. ⌜ flagsOf s ≡ flagsIn k ⌝ }
 {
-    s.result >= 0x8000
-}
-
-fn is_zero(s: Status) -> bool
-    ensures { λ r. ⌜ r ≡ flagsIn s .z ⌝ }
-{
-    s.result % 65536 == 0
-}
-
-// The flags as a number of four bits: N, Z, C, V.
-fn state(s: Status) -> u16
-    ensures { λ r. ⌜ r ≡ stateOf (flagsIn s) ⌝ }
-{
-    let n = is_negative(s);
-    let z = is_zero(s);
-    ((n as u16) << 3) | ((z as u16) << 2) | ((s.c as u16) << 1) | (s.v as u16)
-}
-
-// For a branch's condition, a bit for each of the sixteen states of the flags
-// in which it holds: eq, ne, cs, cc, mi, pl, vs, vc, hi, ls, ge, lt, gt, le.
-fn states(k: u8) -> u16
-    ensures { λ r. ⌜ r ≡ statesOf k ⌝ }
-{
-    match k {
-        0 => 0xF0F0,
-        1 => 0x0F0F,
-        2 => 0xCCCC,
-        3 => 0x3333,
-        4 => 0xFF00,
-        5 => 0x00FF,
-        6 => 0xAAAA,
-        7 => 0x5555,
-        8 => 0x0C0C,
-        9 => 0xF3F3,
-        10 => 0xAA55,
-        11 => 0x55AA,
-        12 => 0x0A05,
-        13 => 0xF5FA,
-        _ => 0,
+    Status {
+        n: is_negative(k),
+        z: is_zero(k),
+        c: is_carry(k),
+        v: is_overflow(k),
     }
 }
 
-// Whether a branch's condition holds. The numbers 14 and up are no conditions.
-pub(crate) fn condition(k: u8, s: Status) -> bool
-    ensures { λ r. ⌜ r ≡ conditionOf k (flagsIn s) ⌝ }
+// A result that N and Z, as they are, may speak of. 0x10000 stands for both
+// set, which no instruction leaves but a start may have.
+fn result_of(n: bool, z: bool) -> u32
+    ensures { λ r. ⌜ (negative r ≡ n) × (eqb (r % 65536) 0 ≡ z) ⌝ }
 {
-    (states(k) >> state(s)) % 2 == 1
+    if n {
+        if z { 0x10000 } else { 0x8000 }
+    } else if z {
+        0
+    } else {
+        1
+    }
+}
+
+// Carries that C and V, as they are, may speak of.
+pub(crate) fn carries_of(c: bool, v: bool) -> u32
+    ensures { λ r. ⌜ (carriesOut (r / 32768) ≡ c) × (carriesOne (r / 32768) ≡ v) ⌝ }
+{
+    if c {
+        if v { 0x10000 } else { 0x18000 }
+    } else if v {
+        0x8000
+    } else {
+        0
+    }
+}
+
+// A PC and flags, held.
+pub fn control_of(pc: u16, s: Status) -> Control
+    ensures { λ k. ⌜ (k .pc ≡ pc) × (flagsIn k ≡ flagsOf s) ⌝ }
+{
+    let result = result_of(s.n, s.z);
+    let carries = carries_of(s.c, s.v);
+    Control {
+        pc,
+        result,
+        carries,
+    }
 }

@@ -4,7 +4,8 @@ use native.Mathlib.Omega.{arith}
 use mathlib.Core.List.{List, [], _∷_}
 use mathlib.Core.Logic.{⊎-elim}
 use mathlib.Core.Path.{_≡_, refl, sym, ap, _∙_}
-use lib.ListN.{length}
+use lib.ListN.{getD, length, set}
+use lib.Seq.{set-getD}
 use borrow.Author.Tests.{eq-eqb, ne-eqb}
 use types.Run.{OneOf}
 use denote.Enum.Declared.{tagOf}
@@ -14,21 +15,29 @@ use Rattle.refusals.specs.declared.refusal.Refusal.{Refusal}
 use Rattle.cpu.specs.declared.held.Control.{Control}
 use Rattle.cpu.specs.declared.held.Executed.{Executed}
 use Rattle.cpu.specs.declared.machine.Machine.{Machine}
-use Rattle.runner.specs.declared.runs.Ran.{Ran}
 use Rattle.runner.specs.declared.runs.RunOutcome.{RunOutcome}
 use Rattle.runner.specs.declared.runs.RunOutcome.the-variants.{Spent, Refused as RunRefused}
 use Rattle.cpu.specs.declared.outcome.Outcome.{Outcome}
 use Rattle.cpu.specs.declared.outcome.Outcome.the-variants.{Completed, Halted, Stopped, Refused}
 use Rattle.cpu.specs.Step.{State, StepResult, stepResult, fetchAndExecute, stepOf}
 use Rattle.runner.specs.Run.{RunResult, runResult, state, goOn, runFrom, runOf}
-use Rattle.cpu.specs.Held.{held}
+use Rattle.cpu.specs.declared.status.Status.{Status}
+use Rattle.cpu.specs.Machine.{Flags, machine}
+use Rattle.cpu.specs.Held.{flagsIn, flagsOf, held}
 use Rattle.runner.specs.Ends.{asRun}
+use Rattle.runner.specs.Lent.{lent}
 use Rattle.cpu.proofs.outcome.Outcome.{the-type}
 
 pub run-refused : (budget : ℕ) (m : Machine) (memory : List ℕ) (r : Refusal) → (length memory ≡ memoryBytes → ⊥) → r ≡ refusal 1
     → runResult m memory (RunRefused r) 0 ≡ runOf budget m memory
 unfolding runOf
 run-refused budget m memory r wrong is = simp (ne-eqb (length memory) memoryBytes wrong, is)
+
+-- what is held at the start is the machine
+pub starts : (regs : List ℕ) (s : Status) (k : Control) → k .pc ≡ getD regs 15 0 → flagsIn k ≡ flagsOf s → held regs k ≡ lent regs s
+starts regs s k pc flags =
+    ap (λ (x : ℕ). machine (set regs 15 x) (flagsIn k)) pc
+    ∙ (ap (λ (l : List ℕ). machine l (flagsIn k)) (set-getD regs 15 0) ∙ ap (λ (f : Flags). machine regs f) flags)
 
 pub run-starts : (budget : ℕ) (s : State) → runFrom (budget - 0) 0 s ≡ runFrom budget 0 s
 run-starts budget s = let z : budget - 0 ≡ budget = omega arith in rw z
@@ -63,36 +72,36 @@ last-step (Stopped number) s count rest last = refl
 last-step (Refused r) s count rest last = refl
 
 -- what a run's last lines answer
-abbrev pub Ends : Ran → List ℕ → Control → RunOutcome → ℕ → Type 0
-Ends r regs k outcome count = (r .machine ≡ held regs k) × (r .outcome ≡ outcome) × (r .count ≡ count)
+abbrev pub Ends : Machine → RunOutcome → ℕ → List ℕ → Control → RunOutcome → ℕ → Type 0
+Ends m o n regs k outcome count = (m ≡ held regs k) × (o ≡ outcome) × (n ≡ count)
 
 module _ (budget : ℕ) (m₀ : Machine) (memory₀ : List ℕ) (right₀ : length memory₀ ≡ memoryBytes) where
-  answers : (r : Ran) (regs memory : List ℕ) (k : Control) (outcome : RunOutcome) (count : ℕ) → Ends r regs k outcome count
+  answers : (m : Machine) (o : RunOutcome) (n : ℕ) (regs memory : List ℕ) (k : Control) (outcome : RunOutcome) (count : ℕ) → Ends m o n regs k outcome count
       → runResult (held regs k) memory outcome count ≡ runFrom budget 0 (state m₀ memory₀)
-      → runResult (r .machine) memory (r .outcome) (r .count) ≡ runOf budget m₀ memory₀
+      → runResult m memory o n ≡ runOf budget m₀ memory₀
   unfolding runOf
-  answers r regs memory k outcome count ends done = simp (eq-eqb (length memory₀) memoryBytes right₀, ends .0, ends .1, ends .2) done
+  answers m o n regs memory k outcome count ends done = simp (eq-eqb (length memory₀) memoryBytes right₀, ends .0, ends .1, ends .2) done
 
   module _ (regs₀ regs memory : List ℕ) (k₀ k : Control) (count : ℕ) (start : held regs₀ k₀ ≡ m₀)
       (left : runFrom (budget - count) count (state (held regs k) memory) ≡ runFrom budget 0 (state (held regs₀ k₀) memory₀)) where
     from-start : runFrom (budget - count) count (state (held regs k) memory) ≡ runFrom budget 0 (state m₀ memory₀)
     from-start = left ∙ rw start
 
-    pub run-spent : (r : Ran) → budget ≤ count → Ends r regs k Spent count
-        → runResult (r .machine) memory (r .outcome) (r .count) ≡ runOf budget m₀ memory₀
+    pub run-spent : (m : Machine) (o : RunOutcome) (n : ℕ) → budget ≤ count → Ends m o n regs k Spent count
+        → runResult m memory o n ≡ runOf budget m₀ memory₀
     unfolding runFrom
-    run-spent r all ends =
+    run-spent m o n all ends =
         let z : budget - count ≡ 0 = omega arith in
-        answers r regs memory k Spent count ends (rw z at from-start)
+        answers m o n regs memory k Spent count ends (rw z at from-start)
 
     -- one more turn, where the step doesn't complete
-    pub run-ends : (r : Ran) (regs′ memory′ : List ℕ) (e : Executed) → count < budget → length memory ≡ memoryBytes
-        → Steps regs memory k regs′ e memory′ → Last (e .outcome) → Ends r regs′ (e .control) (asRun (e .outcome)) count
-        → runResult (r .machine) memory′ (r .outcome) (r .count) ≡ runOf budget m₀ memory₀
-    run-ends r regs′ memory′ e more right leads last ends =
+    pub run-ends : (m : Machine) (o : RunOutcome) (n : ℕ) (regs′ memory′ : List ℕ) (e : Executed) → count < budget → length memory ≡ memoryBytes
+        → Steps regs memory k regs′ e memory′ → Last (e .outcome) → Ends m o n regs′ (e .control) (asRun (e .outcome)) count
+        → runResult m memory′ o n ≡ runOf budget m₀ memory₀
+    run-ends m o n regs′ memory′ e more right leads last ends =
         let t : budget - count ≡ suc (budget - (count + 1)) = omega arith in
         let next = stepResult (held regs′ (e .control)) memory′ (e .outcome) in
-        answers r regs′ memory′ (e .control) (asRun (e .outcome)) count ends
+        answers m o n regs′ memory′ (e .control) (asRun (e .outcome)) count ends
         (sym (last-step (e .outcome) (next .state) count (runFrom (budget - (count + 1)) (count + 1) (next .state)) last)
         ∙ (sym (turn (budget - (count + 1)) count (state (held regs k) memory) next (one-step regs memory regs′ memory′ k e right leads))
         ∙ (rw t at from-start)))

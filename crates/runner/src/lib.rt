@@ -1,7 +1,9 @@
 // A run of the PAW processor: steps until a budget is spent.
-mod held;
+mod lent;
 mod runs;
 
+pub use lent::RanLent;
+pub use lent::run_lent;
 pub use runs::Ran;
 pub use runs::RunOutcome;
 pub use runs::run;

@@ -1,8 +1,9 @@
 // A step by value.
 use cpu::Machine;
 use cpu::Outcome;
+use cpu::Status;
 use runner::RunOutcome;
-use runner::run;
+use runner::run_lent;
 ghost use mathlib.Core.Path.{_≡_};
 ghost use Rattle.cpu.specs.Step.{stepResult, stepOf};
 ghost use Rattle.stepper.specs.Ends.{asStep};
@@ -29,9 +30,23 @@ fn step_outcome(outcome: RunOutcome) -> Outcome
 pub fn step_value(m: Machine, memory: &mut [u8]) -> Stepped
     ensures { λ r. ⌜ stepResult (r .machine) (now (memory .exit)) (r .outcome) ≡ stepOf m (now (memory .entry)) ⌝ }
 {
-    let r = run(m, memory, 1);
-    let machine = r.machine;
-    let outcome = r.outcome;
+    let mut regs = m.regs;
+    let before = Status {
+        n: m.n,
+        z: m.z,
+        c: m.c,
+        v: m.v,
+    };
+    let e = run_lent(&mut regs, before, memory, 1);
+    let after = e.status;
+    let machine = Machine {
+        regs,
+        n: after.n,
+        z: after.z,
+        c: after.c,
+        v: after.v,
+    };
+    let outcome = e.outcome;
     Stepped {
         machine,
         outcome: step_outcome(outcome),

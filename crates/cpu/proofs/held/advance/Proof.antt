@@ -10,4 +10,4 @@ advance-spec =
     (tie.spec
     (λ c κs. search needs)
     (λ c κs. search needs)
-    (λ c. c .control-at .ensures ∙ rw (c .before .wrapping-add-u16 .ensures)))
+    (λ c. c .move-to .ensures ∙ rw (c .before .wrapping-add-u16 .ensures)))

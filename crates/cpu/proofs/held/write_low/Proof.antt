@@ -8,7 +8,7 @@ use Rattle.cpu.proofs.held.write_low.Tie as tie
 returns : tie.Need-returns
 returns c =
     let m = c .before in
-    write-holds (m .args .regs .now) (m .args .pc) (m .pre .0) (m .args .rd) (m .args .x) (c .advance .result) (m .args .status)
+    write-holds (m .args .regs .now) (m .args .k) (c .advance .result) (m .pre .0) (m .args .rd) (m .args .x)
     (λ e. omega (arith, e, m .pre .1)) (c .advance .ensures)
 
 pub write-low-spec : {M : Type 1} → statement M

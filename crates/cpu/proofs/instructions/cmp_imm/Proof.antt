@@ -12,8 +12,7 @@ unfolding cmpImmOf
 returns c =
     let m = c .before .before .before .before .before in
     simp (low-is (m .args .regs .now) (m .args .k .pc) (m .pre) (field (m .args .h) 8 3) (omega arith))
-    (simp (c .before .before .before .before .bits .ensures, c .before .before .bits2 .ensures) at
-    (advance-holds (m .args .regs .now) (m .args .k .pc) (m .pre) (c .advance .result) (c .before .compare .result) _ (c .advance .ensures) (c .before .compare .ensures)))
+    (simp (c .before .before .before .before .bits .ensures, c .before .before .bits2 .ensures) at (advance-holds (m .args .regs .now) (m .args .k) (c .advance .result) (m .pre) (c .before .compare .result) _ (c .advance .ensures) (c .before .compare .ensures)))
 
 pub cmp-imm-spec : {M : Type 1} → statement M
 cmp-imm-spec =

@@ -16,13 +16,13 @@ returns c =
 
 returns-2 : tie.Need-returns-2
 returns-2 c =
-    let m = c .before .before .before .before .before .before .before .before .before .before .before in
-    let offset = c .before .before .before .before .before .before .before .before .bits in
-    let rd = c .before .before .before .bits2 in
+    let m = c .before .before .before .before .before .before .before .before .before .before in
+    let offset = c .before .before .before .before .before .before .before .bits in
+    let rd = c .before .before .bits2 in
     simp (offset .ensures, rd .ensures) at
     (ldr-completes (m .args .regs .now) (m .args .memory .now) (m .args .k) (offset .result) (field (m .args .h) 3 3) (rd .result) _ (c .completed .result) (m .pre .0) (omega arith)
-    (c .before .before .before .before .before .before .before .effective-address .ensures) (c .before .before .before .before .before .before .if1 .left) _ (c .before .write-low .result) _ (c .completed .ensures)
-    (c .before .before .before .before .before .halfword-at .ensures) (simp (c .before .before .status-in .ensures) at (c .before .write-low .ensures)))
+    (c .before .before .before .before .before .before .effective-address .ensures) (c .before .before .before .before .before .if1 .left) _ (c .before .write-low .result) _ (c .completed .ensures)
+    (c .before .before .before .before .halfword-at .ensures) (c .before .write-low .ensures))
 
 pub ldr-spec : {M : Type 1} → statement M
 ldr-spec =
@@ -35,7 +35,6 @@ ldr-spec =
     (λ c κs. search needs)
     returns
     (λ c. search needs)
-    (λ c κs. search needs)
     (λ c κs. search needs)
     (λ c κs. search needs)
     (λ c κs. search needs)

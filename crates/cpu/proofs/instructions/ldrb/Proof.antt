@@ -10,9 +10,9 @@ use Rattle.cpu.proofs.instructions.ldrb.Tie as tie
 returns : tie.Need-returns
 unfolding ldrbOf
 returns c =
-    let m = c .before .before .before .before .before .before .before .before .before in
+    let m = c .before .before .before .before .before .before .before .before in
     simp (low-is (m .args .regs .now) (m .args .k .pc) (m .pre .0) (field (m .args .h) 3 3) (omega arith))
-    (simp (c .before .status-in .ensures, c .before .before .bits2 .ensures, c .before .before .before .before .load-byte .ensures, c .before .before .before .before .before .effective-address .ensures, c .before .before .before .before .before .before .bits .ensures) at (c .write-low .ensures))
+    (simp (c .before .bits2 .ensures, c .before .before .before .load-byte .ensures, c .before .before .before .before .effective-address .ensures, c .before .before .before .before .before .bits .ensures) at (c .write-low .ensures))
 
 pub ldrb-spec : {M : Type 1} → statement M
 ldrb-spec =
@@ -22,7 +22,6 @@ ldrb-spec =
     (λ c. search needs)
     (λ c κs. search needs)
     (λ c. search needs)
-    (λ c κs. search needs)
     (λ c κs. search needs)
     (λ c κs. search needs)
     (λ c κs. search needs)

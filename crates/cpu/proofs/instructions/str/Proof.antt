@@ -17,13 +17,13 @@ returns c =
 
 returns-2 : tie.Need-returns-2
 returns-2 c =
-    let m = c .before .before .before .before .before .before .before .before .before .before .before .before .before in
-    let offset = c .before .before .before .before .before .before .before .before .before .before .before .bits in
-    let rd = c .before .before .before .before .before .before .before .before .bits2 in
+    let m = c .before .before .before .before .before .before .before .before .before .before .before .before in
+    let offset = c .before .before .before .before .before .before .before .before .before .before .bits in
+    let rd = c .before .before .before .before .before .before .before .bits2 in
     simp (offset .ensures, rd .ensures) at
     (str-completes (m .args .regs .now) (m .args .memory .now) (m .args .k) (offset .result) (field (m .args .h) 3 3) (rd .result) _ (c .completed .result) (m .pre .0) (omega arith)
-    (c .before .before .before .before .before .before .before .before .before .before .effective-address .ensures) (omega (arith, rd .ensures)) (c .before .before .before .before .before .before .before .before .before .if1 .left) _
-    (c .completed .ensures .0 ∙ (c .before .advance .ensures ∙ rw (c .before .before .status-in .ensures)), c .completed .ensures .1) (c .before .before .before .before .before .put-halfword .ensures))
+    (c .before .before .before .before .before .before .before .before .before .effective-address .ensures) (omega (arith, rd .ensures)) (c .before .before .before .before .before .before .before .before .if1 .left) _
+    (c .completed .ensures .0 ∙ c .before .advance .ensures, c .completed .ensures .1) (c .before .before .before .before .put-halfword .ensures))
 
 pub str-spec : {M : Type 1} → statement M
 str-spec =
@@ -40,7 +40,6 @@ str-spec =
     (λ c. search needs)
     (λ c. search needs)
     (λ c. search needs)
-    (λ c κs. search needs)
     (λ c κs. search needs)
     (λ c κs. search needs)
     (λ c κs. search needs)

@@ -1,4 +1,4 @@
--- The address takes the low byte.
+-- The low byte of Rd goes to the address.
 use mathlib.Core.Path.{_∙_}
 use native.Mathlib.Omega.{arith}
 use Rattle.units.specs.Field.{field}
@@ -9,13 +9,13 @@ use Rattle.cpu.proofs.instructions.strb.Tie as tie
 
 returns : tie.Need-returns
 returns c =
-    let m = c .before .before .before .before .before .before .before .before .before .before .before .before in
-    let offset = c .before .before .before .before .before .before .before .before .before .before .bits in
-    let rd = c .before .before .before .before .before .before .before .before .bits2 in
+    let m = c .before .before .before .before .before .before .before .before .before .before .before in
+    let offset = c .before .before .before .before .before .before .before .before .before .bits in
+    let rd = c .before .before .before .before .before .before .before .bits2 in
     simp (offset .ensures, rd .ensures) at
     (strb-completes (m .args .regs .now) (m .args .memory .now) (m .args .k) (offset .result) (field (m .args .h) 3 3) (rd .result) _ (c .completed .result) (m .pre .0) (omega arith)
-    (c .before .before .before .before .before .before .before .before .before .effective-address .ensures) (omega (arith, rd .ensures)) _
-    (c .completed .ensures .0 ∙ (c .before .advance .ensures ∙ rw (c .before .before .status-in .ensures)), c .completed .ensures .1) (c .before .before .before .before .before .store-byte .ensures))
+    (c .before .before .before .before .before .before .before .before .effective-address .ensures) (omega (arith, rd .ensures)) _
+    (c .completed .ensures .0 ∙ c .before .advance .ensures, c .completed .ensures .1) (c .before .before .before .before .store-byte .ensures))
 
 pub strb-spec : {M : Type 1} → statement M
 strb-spec =
@@ -29,7 +29,6 @@ strb-spec =
     (λ c. search needs)
     (λ c. search needs)
     (λ c. search needs)
-    (λ c κs. search needs)
     (λ c κs. search needs)
     (λ c κs. search needs)
     (λ c κs. search needs)

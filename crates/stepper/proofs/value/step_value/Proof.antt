@@ -11,4 +11,4 @@ step-value-spec =
     (λ c κs. search needs)
     (λ c κs. search needs)
     (λ c. search needs)
-    (λ c. rw (c .step-outcome .ensures) (stepped _ _ _ _ _ (c .before .before .before .before .run .result .count) (c .before .before .before .before .run .ensures))))
+    (λ c. rw (c .step-outcome .ensures) (stepped _ _ _ _ _ (c .before .before .before .before .run-lent .result .count) (c .before .before .before .before .run-lent .ensures))))

@@ -1,0 +1,17 @@
+-- Each ending has its own.
+use borrow.Author.Needs.{needs}
+use Rattle.runner.proofs.lent.run_outcome.Statement.{statement}
+use Rattle.runner.proofs.lent.run_outcome.Tie as tie
+
+pub run-outcome-spec : {M : Type 1} → statement M
+run-outcome-spec =
+    tie.close
+    (tie.spec
+    (λ c. search needs)
+    (λ c. search needs)
+    (λ c. search needs)
+    (λ c. search needs)
+    (λ c. search needs)
+    (λ c. search needs)
+    (λ c. rw (c .before .outcome .given .1))
+    (λ c. rw (c .before .outcome2 .given .1)))

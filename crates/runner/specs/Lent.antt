@@ -1,0 +1,10 @@
+-- A machine whose registers are lent and whose flags come by value.
+use mathlib.Core.List.{List}
+use Prim.Native.Nat.{ℕ}
+use Rattle.cpu.specs.declared.machine.Machine.{Machine}
+use Rattle.cpu.specs.declared.status.Status.{Status}
+use Rattle.cpu.specs.Machine.{machine}
+use Rattle.cpu.specs.Held.{flagsOf}
+
+abbrev pub lent : List ℕ → Status → Machine
+lent regs s = machine regs (flagsOf s)
