@@ -1,5 +1,5 @@
 -- Conditions that the code asks the other way round.
-use mathlib.Core.Bool.{Bool, true, false, not, _&&_, _||_}
+use mathlib.Core.Bool.{Bool, true, false, not, _&&_, _||_, Bool·beq}
 use mathlib.Core.Path.{_≡_, refl}
 
 pub twice : (a : Bool) → not (not a) ≡ a
@@ -19,3 +19,8 @@ not-greater true true = refl
 not-greater true false = refl
 not-greater false true = refl
 not-greater false false = refl
+
+-- V as an operand's sign, twice, beside a sum that has none
+pub said : (v : Bool) → (not (Bool·beq v false) && not (Bool·beq v false)) ≡ v
+said true = refl
+said false = refl

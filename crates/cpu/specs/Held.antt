@@ -1,9 +1,9 @@
 -- How the code holds a machine while it works: registers in an array, and by value beside it the PC and the flags.
 -- Only contracts of functions that are no entry points speak of it.
-use mathlib.Core.Bool.{Bool, cond, _||_}
+use mathlib.Core.Bool.{Bool, cond, _&&_}
 use mathlib.Core.List.{List}
 use mathlib.Core.Path.{_≡_}
-use Prim.Native.Nat.{ℕ, _+_, _/_, _%_}
+use Prim.Native.Nat.{ℕ, _+_, _%_}
 use lib.Dec.{eqb, leb}
 use lib.ListN.{length, set}
 use Rattle.units.specs.Address.{wrap, branchTargetOf}
@@ -16,25 +16,20 @@ use Rattle.cpu.specs.declared.held.Control.{Control}
 use Rattle.cpu.specs.declared.held.Executed.{Executed}
 use Rattle.cpu.specs.declared.status.Status.{Status}
 use Rattle.cpu.specs.Machine.{Flags, machine}
-use Rattle.cpu.specs.Alu.{negative}
+use Rattle.cpu.specs.Alu.{negative, signsDiffer}
 use Rattle.cpu.specs.Step.{StepResult, stepResult, executeDecoded}
 
--- what a sum carried, as a number: 1 into its sign bit, 2 out of it. Out of it
-abbrev pub carriesOut : ℕ → Bool
-carriesOut n = leb 2 n
-
--- just one of the two
-abbrev pub carriesOne : ℕ → Bool
-carriesOne n = eqb n 1 || eqb n 2
-
--- N and Z speak of the result that is held, C and V of the carries
+-- N and Z speak of the result that is held, C and V of the sum: where it has more than 16 bits, and where its low 16 have a
+-- sign that neither operand has
 abbrev pub flagsIn : Control → Flags
-flagsIn k = record {
-  n = negative (k .result);
-  z = eqb (k .result % 65536) 0;
-  c = carriesOut (k .carries / 32768);
-  v = carriesOne (k .carries / 32768);
-}
+flagsIn k =
+    let low = k .sum % 65536 in
+    record {
+      n = negative (k .result);
+      z = eqb (k .result % 65536) 0;
+      c = leb 65536 (k .sum);
+      v = signsDiffer (k .a) low && signsDiffer (k .b) low;
+    }
 
 -- and the flags by themselves
 abbrev pub flagsOf : Status → Flags
@@ -42,7 +37,7 @@ flagsOf s = record { n = s .n; z = s .z; c = s .c; v = s .v }
 
 -- the same flags at another PC
 abbrev pub moved : ℕ → Control → Control
-moved pc k = record { pc = pc; result = k .result; carries = k .carries }
+moved pc k = record { pc = pc; result = k .result; a = k .a; b = k .b; sum = k .sum }
 
 -- other flags at the same PC
 pub record Flagged (g k : Control) (f : Flags) : Type 0 where

@@ -1,12 +1,10 @@
 // Results and flags. Sums, and differences as sums with the negated operand,
 // are the standard library's wrapping addition.
 use super::conditions::is_carry;
-use super::conditions::is_overflow;
 use super::held::Control;
-use super::status::carries_of;
 ghost use mathlib.Core.Path.{_≡_};
-ghost use Prim.Native.Nat.{_<_};
-ghost use lib.Bits.{bitXor};
+ghost use Prim.Native.Nat.{_%_, _<_};
+ghost use lib.Dec.{leb};
 ghost use Rattle.cpu.specs.Alu.{resultFlags, sumOf, sumFlags, differenceOf, differenceFlags, shiftedOf, shiftOf, shiftCarry, shiftFlags};
 ghost use Rattle.cpu.specs.Held.{flagsIn, Flagged};
 
@@ -17,7 +15,9 @@ pub(crate) fn result_flags(k: Control, r: u16) -> Control
     Control {
         pc: k.pc,
         result: r as u32,
-        carries: k.carries,
+        a: k.a,
+        b: k.b,
+        sum: k.sum,
     }
 }
 
@@ -34,25 +34,17 @@ pub(crate) fn difference(a: u16, b: u16) -> u16
     std::num::wrapping_add_u16(a, negated)
 }
 
-// What the sum s of a and b carried: a digit of it differs from those of a and
-// b together where something came into it.
-fn carries(a: u32, b: u32, s: u32) -> u32
-    ensures { λ r. ⌜ r ≡ bitXor (bitXor a b) s ⌝ }
-{
-    a ^ b ^ s
-}
-
 // The flags of a sum r of a and b.
 pub(crate) fn sum_flags(k: Control, a: u16, b: u16, r: u16) -> Control
     requires { ⌜ r ≡ sumOf a b ⌝ }
     ensures { λ g. ⌜ Flagged g k (sumFlags a b) ⌝ }
 {
-    let x = a as u32;
-    let y = b as u32;
     Control {
         pc: k.pc,
         result: r as u32,
-        carries: carries(x, y, x + y),
+        a,
+        b,
+        sum: (a as u32) + (b as u32),
     }
 }
 
@@ -62,12 +54,12 @@ pub(crate) fn difference_flags(k: Control, a: u16, b: u16, r: u16) -> Control
     requires { ⌜ r ≡ differenceOf a b ⌝ }
     ensures { λ g. ⌜ Flagged g k (differenceFlags a b) ⌝ }
 {
-    let x = a as u32;
-    let y = b as u32;
     Control {
         pc: k.pc,
         result: r as u32,
-        carries: carries(x, 65535 - y, x + 65536 - y),
+        a,
+        b: 65535 - b,
+        sum: (a as u32) + 65536 - (b as u32),
     }
 }
 
@@ -116,16 +108,24 @@ fn shift_carry(a: u16, k: u16, c: bool) -> bool
     }
 }
 
+// A sum that says C, with the low 16 bits of another, of which V speaks.
+pub(crate) fn with_carry(sum: u32, c: bool) -> u32
+    ensures { λ r. ⌜ (leb 65536 r ≡ c) × (r % 65536 ≡ sum % 65536) ⌝ }
+{
+    if c { sum % 65536 + 65536 } else { sum % 65536 }
+}
+
 // The flags of ASR's result r of a and n.
 pub(crate) fn shift_flags(k: Control, a: u16, n: u16, r: u16) -> Control
     requires { ⌜ r ≡ shiftOf a n ⌝ }
     ensures { λ g. ⌜ Flagged g k (shiftFlags a n (flagsIn k)) ⌝ }
 {
     let c = shift_carry(a, n, is_carry(k));
-    let v = is_overflow(k);
     Control {
         pc: k.pc,
         result: r as u32,
-        carries: carries_of(c, v),
+        a: k.a,
+        b: k.b,
+        sum: with_carry(k.sum, c),
     }
 }

@@ -2,7 +2,21 @@
 use super::held::Control;
 ghost use mathlib.Core.Bool.{not, _&&_, Bool·beq};
 ghost use mathlib.Core.Path.{_≡_};
+ghost use Rattle.cpu.specs.Alu.{signsDiffer};
 ghost use Rattle.cpu.specs.Held.{flagsIn};
+
+// Whether two numbers have different signs.
+fn signs_differ(a: u16, b: u16) -> bool
+    ensures { λ r. ⌜ r ≡ signsDiffer a b ⌝ }
+{
+    (a >= 0x8000) != (b >= 0x8000)
+}
+
+fn both(a: bool, b: bool) -> bool
+    ensures { λ r. ⌜ r ≡ (a && b) ⌝ }
+{
+    a && b
+}
 
 pub(crate) fn is_negative(k: Control) -> bool
     ensures { λ r. ⌜ r ≡ flagsIn k .n ⌝ }
@@ -19,21 +33,21 @@ pub(crate) fn is_zero(k: Control) -> bool
 pub(crate) fn is_carry(k: Control) -> bool
     ensures { λ r. ⌜ r ≡ flagsIn k .c ⌝ }
 {
-    k.carries / 32768 >= 2
+    k.sum >= 65536
 }
 
 pub(crate) fn is_overflow(k: Control) -> bool
     ensures { λ r. ⌜ r ≡ flagsIn k .v ⌝ }
 {
-    let carries = k.carries / 32768;
-    carries == 1 || carries == 2
+    let low = (k.sum % 65536) as u16;
+    both(signs_differ(k.a, low), signs_differ(k.b, low))
 }
 
 // Unsigned: above.
 pub(crate) fn is_higher(k: Control) -> bool
     ensures { λ r. ⌜ r ≡ (flagsIn k .c && not (flagsIn k .z)) ⌝ }
 {
-    is_carry(k) && !is_zero(k)
+    both(is_carry(k), !is_zero(k))
 }
 
 // Signed: below.
@@ -47,5 +61,5 @@ pub(crate) fn is_less(k: Control) -> bool
 pub(crate) fn is_greater(k: Control) -> bool
     ensures { λ r. ⌜ r ≡ (not (flagsIn k .z) && Bool·beq (flagsIn k .n) (flagsIn k .v)) ⌝ }
 {
-    !is_zero(k) && !is_less(k)
+    both(!is_zero(k), !is_less(k))
 }

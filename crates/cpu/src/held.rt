@@ -11,13 +11,15 @@ ghost use Rattle.cpu.specs.Held.{flagsIn, moved, Whole, Holds};
 
 // The PC and the flags, these as what they speak of, so that an instruction
 // which sets them has hardly any work with them and only a branch looks closer.
-// N is set where the result is 0x8000 or more, Z where its low 16 bits are 0. The
-// carries are bits 15 and 16, of what a sum carried into its sign bit and out
-// of it: C is the one out, and V is set where just one of them is there.
+// N is set where the result is 0x8000 or more, Z where its low 16 bits are 0; C
+// where the sum of a and b has more than 16 bits, V where its low 16 have a sign
+// that neither a nor b has.
 pub struct Control {
     pub pc: u16,
     pub result: u32,
-    pub carries: u32,
+    pub a: u16,
+    pub b: u16,
+    pub sum: u32,
 }
 
 // What an instruction hands on, and how it ended.
@@ -52,7 +54,9 @@ pub(crate) fn move_to(pc: u16, k: Control) -> Control
     Control {
         pc,
         result: k.result,
-        carries: k.carries,
+        a: k.a,
+        b: k.b,
+        sum: k.sum,
     }
 }
 

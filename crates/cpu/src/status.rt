@@ -1,14 +1,15 @@
 // The flags by themselves, and as they are held.
+use super::alu::with_carry;
 use super::conditions::is_carry;
 use super::conditions::is_negative;
 use super::conditions::is_overflow;
 use super::conditions::is_zero;
 use super::held::Control;
 ghost use mathlib.Core.Path.{_≡_};
-ghost use Prim.Native.Nat.{_/_, _%_};
+ghost use Prim.Native.Nat.{_%_};
 ghost use lib.Dec.{eqb};
 ghost use Rattle.cpu.specs.Alu.{negative};
-ghost use Rattle.cpu.specs.Held.{carriesOut, carriesOne, flagsIn, flagsOf};
+ghost use Rattle.cpu.specs.Held.{flagsIn, flagsOf};
 
 pub struct Status {
     pub n: bool,
@@ -43,17 +44,11 @@ fn result_of(n: bool, z: bool) -> u32
     }
 }
 
-// Carries that C and V, as they are, may speak of.
-pub(crate) fn carries_of(c: bool, v: bool) -> u32
-    ensures { λ r. ⌜ (carriesOut (r / 32768) ≡ c) × (carriesOne (r / 32768) ≡ v) ⌝ }
+// An operand whose sign is V: twice the same, and a sum with no sign, say so.
+fn operand_of(v: bool) -> u16
+    ensures { λ r. ⌜ negative r ≡ v ⌝ }
 {
-    if c {
-        if v { 0x10000 } else { 0x18000 }
-    } else if v {
-        0x8000
-    } else {
-        0
-    }
+    if v { 0x8000 } else { 0 }
 }
 
 // A PC and flags, held.
@@ -61,10 +56,13 @@ pub fn control_of(pc: u16, s: Status) -> Control
     ensures { λ k. ⌜ (k .pc ≡ pc) × (flagsIn k ≡ flagsOf s) ⌝ }
 {
     let result = result_of(s.n, s.z);
-    let carries = carries_of(s.c, s.v);
+    let operand = operand_of(s.v);
+    let sum = with_carry(0, s.c);
     Control {
         pc,
         result,
-        carries,
+        a: operand,
+        b: operand,
+        sum,
     }
 }

@@ -6,9 +6,7 @@ use Rattle.cpu.proofs.alu.difference_flags.Statement.{statement}
 use Rattle.cpu.proofs.alu.difference_flags.Tie as tie
 
 returns : tie.Need-returns
-returns c =
-    let m = c .before in
-    record { pc = refl; flags = difference-flags (m .args .a) (m .args .b) (m .args .r) (c .carries .result) (search needs) (search needs) (search needs) (m .pre) (c .carries .ensures) }
+returns c = record { pc = refl; flags = difference-flags (c .args .a) (c .args .b) (c .args .r) (search needs) (search needs) (search needs) (c .pre) }
 
 pub difference-flags-spec : {M : Type 1} → statement M
 difference-flags-spec =
@@ -17,5 +15,4 @@ difference-flags-spec =
     (λ c. search needs)
     (λ c. search needs)
     (λ c. search needs)
-    (λ c κs. search needs)
     returns)

@@ -1,19 +1,17 @@
--- The carries of the sum are told by the digits in which it differs from its operands.
+-- The operands and their sum are held, and the flags speak of them as the definition does.
 use mathlib.Core.Path.{refl}
-use Rattle.cpu.proofs.Sums.{sum-flags}
+use Rattle.cpu.specs.Alu.{sumOf}
+use Rattle.cpu.proofs.Sums.{result-are}
 use borrow.Author.Needs.{needs}
 use Rattle.cpu.proofs.alu.sum_flags.Statement.{statement}
 use Rattle.cpu.proofs.alu.sum_flags.Tie as tie
 
 returns : tie.Need-returns
-returns c =
-    let m = c .before in
-    record { pc = refl; flags = sum-flags (m .args .a) (m .args .b) (m .args .r) (c .carries .result) (search needs) (search needs) (search needs) (m .pre) (c .carries .ensures) }
+returns c = record { pc = refl; flags = result-are (c .args .r) (sumOf (c .args .a) (c .args .b)) (search needs) (c .pre) refl refl }
 
 pub sum-flags-spec : {M : Type 1} → statement M
 sum-flags-spec =
     tie.close
     (tie.spec
     (λ c. search needs)
-    (λ c κs. search needs)
     returns)

@@ -1,16 +1,17 @@
 -- Z is told by a function, and what N and V say together by another.
-use mathlib.Core.Bool.{not}
-use mathlib.Core.Path.{sym, ap, _∙_}
+use mathlib.Core.Bool.{not, _&&_, Bool, Bool·beq}
+use mathlib.Core.Path.{ap, _∙_}
+use Rattle.cpu.specs.Held.{flagsIn}
 use Rattle.cpu.proofs.Turned.{twice}
 use borrow.Author.Needs.{needs}
 use Rattle.cpu.proofs.conditions.is_greater.Statement.{statement}
 use Rattle.cpu.proofs.conditions.is_greater.Tie as tie
 
 returns : tie.Need-returns
-returns c = simp (ap not (sym (c .before .before .is-zero .ensures)) ∙ c .before .if1 .taken, c .is-less .ensures) (twice _)
-
-returns-2 : tie.Need-returns-2
-returns-2 c = simp (ap not (sym (c .before .is-zero .ensures)) ∙ c .if1 .left) (c .if1 .left)
+returns c =
+    let k = c .before .before .before .args .k in
+    c .both .ensures
+    ∙ (rw (c .before .before .is-zero .ensures, c .before .is-less .ensures) (ap (λ (t : Bool). not (flagsIn k .z) && t) (twice (Bool·beq (flagsIn k .n) (flagsIn k .v)))))
 
 pub is-greater-spec : {M : Type 1} → statement M
 is-greater-spec =
@@ -18,5 +19,5 @@ is-greater-spec =
     (tie.spec
     (λ c κs. search needs)
     (λ c κs. search needs)
-    returns
-    returns-2)
+    (λ c κs. search needs)
+    returns)
