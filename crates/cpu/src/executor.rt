@@ -1,9 +1,9 @@
 // A step on a machine that is held: the halfword at the PC is fetched and, by its
 // fields, sent to the function of its instruction. To make an `Instruction` of
 // it first, only to take that apart again, would cost a run more than the
-// instructions themselves. So would more than two tests on the way: the
-// operations on registers are told apart by ten bits at once, the conditions of
-// branches by the upper byte, all else by five bits.
+// instructions themselves. For the same reason few tests are on the way: ten
+// bits tell an operation on registers, five all else but a branch, and a
+// branch's upper byte its condition.
 use super::conditions::is_carry;
 use super::conditions::is_greater;
 use super::conditions::is_higher;

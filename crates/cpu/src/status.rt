@@ -11,6 +11,7 @@ ghost use lib.Dec.{eqb};
 ghost use Rattle.cpu.specs.Alu.{negative};
 ghost use Rattle.cpu.specs.Held.{flagsIn, flagsOf};
 
+// N, Z, C and V.
 pub struct Status {
     pub n: bool,
     pub z: bool,
