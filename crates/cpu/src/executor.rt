@@ -88,7 +88,7 @@ fn execute(regs: &mut [u16; 16], k: Control, memory: &mut [u8], h: u16) -> Execu
     requires { ⌜ Whole (now regs) × (length (now memory) ≡ memoryBytes) ⌝ }
     ensures { λ r. ⌜ Leads (now (regs .exit)) r (now (memory .exit)) (executeDecoded (decodeOf h) (held (now (regs .entry)) k) (now (memory .entry))) ⌝ }
 {
-    match h / 64 {
+    match h >> 6 {
         0x100 => completed(instructions::and(regs, k, h)),
         0x101 => completed(instructions::eor(regs, k, h)),
         0x102 => completed(instructions::asr(regs, k, h)),

@@ -4,7 +4,7 @@ use native.Mathlib.Omega.{arith}
 use mathlib.Core.Path.{_≡_, refl, ap, _∙_}
 use borrow.Author.Tests.{ne-eqb, lt-ltb}
 use Rattle.units.specs.Field.{field}
-use Rattle.isa.specs.Decode.{entry, immTable, haltOf, registersTable, registersOf, memoryTable, branchOf, decodeOf}
+use Rattle.isa.specs.Decode.{entry, immTable, haltOf, registersTable, memoryTable, branchOf, decodeOf}
 use Rattle.isa.specs.declared.decoder.Decoded.the-variants.{Defined, Undefined}
 use Rattle.isa.specs.declared.instruction.Instruction.the-variants.{AddPc, Branch}
 use Rattle.isa.proofs.Table.{entry-past}
@@ -18,9 +18,6 @@ module _ (h : ℕ) (fits : h < 65536) where
       let f : field h 13 3 ≡ 1 = omega arith in
       let g : field h 11 2 ≡ n = omega arith in
       simp (f, g)
-
-  pub is-registers : field h 11 5 ≡ 8 → decodeOf h ≡ registersOf h
-  is-registers e = let f : field h 13 3 ≡ 2 = omega arith in simp f
 
   pub is-memory : (n : ℕ) → n < 4 → field h 11 5 ≡ 12 + n → decodeOf h ≡ entry (memoryTable h) n
   is-memory n small e =
@@ -106,7 +103,3 @@ module _ (h : ℕ) (fits : h < 65536) where
       (λ z. rest .0 .0 .1 (told ∙ z))
       (λ z. rest .0 .1 (told ∙ z))
       (λ z. rest .1 (told ∙ z))
-
--- bit 10, where the two bits above it are 0
-pub one-bit : (h : ℕ) → field h 11 2 ≡ 0 → field h 10 3 ≡ field h 10 1
-one-bit h e = omega arith

@@ -1,5 +1,5 @@
 // The fields of a halfword. Every part that takes an instruction apart reads
-// them here.
+// them here; only a run asks for the upper ten bits at once itself.
 ghost use mathlib.Core.Path.{_≡_};
 ghost use Prim.Native.Nat.{_≤_, _<_};
 ghost use Rattle.units.specs.Field.{field, highRs, highRd};
