@@ -1,3 +1,4 @@
 pub mod Date
+pub mod Version
 pub mod Instructions
 pub mod Answers

@@ -7,6 +7,7 @@ mod images;
 mod instructions;
 mod machines;
 mod programs;
+mod version;
 
 pub use date::paw_manual_date;
 pub use images::paw_block;
@@ -18,3 +19,4 @@ pub use machines::paw_run;
 pub use machines::paw_step;
 pub use programs::paw_load;
 pub use programs::paw_verify;
+pub use version::paw_version;
