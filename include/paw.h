@@ -1,5 +1,5 @@
 /*
- * The proved firmware of the PAW service board, for C11 and C++11. Link with libpaw.a.
+ * The proved firmware of the PAW service board, for C11 and C++11 and up. Link with libpaw.a.
  *
  * A program for the board travels as an image file: paw_pack makes one, paw_check reads what it
  * says of itself, paw_verify decides whether it can be run without harm, paw_load puts it into
@@ -17,14 +17,28 @@
 #ifndef PAW_H
 #define PAW_H
 
-#include <assert.h>
 #include <stdbool.h>
 #include <stddef.h>
 #include <stdint.h>
 
 #ifdef __cplusplus
+#define PAW_STATIC_ASSERT static_assert
 extern "C" {
+#else
+#define PAW_STATIC_ASSERT _Static_assert
 #endif
+
+/* The version of this header; paw_version tells that of the library. */
+#define PAW_VERSION_MAJOR 0
+#define PAW_VERSION_MINOR 1
+#define PAW_VERSION_PATCH 0
+
+/* The version as one number, larger for a later one, and as text, "0.1.0". */
+#define PAW_VERSION (PAW_VERSION_MAJOR * 65536u + PAW_VERSION_MINOR * 256u + PAW_VERSION_PATCH)
+#define PAW_VERSION_STRING                                                                         \
+    PAW_QUOTE(PAW_VERSION_MAJOR) "." PAW_QUOTE(PAW_VERSION_MINOR) "." PAW_QUOTE(PAW_VERSION_PATCH)
+#define PAW_QUOTE(value) PAW_QUOTE_AS_IS(value)
+#define PAW_QUOTE_AS_IS(text) #text
 
 enum {
     PAW_MEMORY_BYTES = 65536, /* the whole address space */
@@ -35,11 +49,11 @@ enum {
 };
 
 /*
- * Numbers of answers. 1 to 17 are refusals, each the number of the first check that failed; a
- * refused call has changed nothing. 18 to 20 are stops of the machine, 255 is its HALT.
+ * Whether a call was refused: PAW_OK, or the number of the first check that failed. A refused call
+ * has changed nothing. paw_step and paw_run answer how they ended instead, see enum paw_ending.
  */
 enum paw_number {
-    PAW_OK = 0,             /* passed, packed, read, step completed, or budget spent */
+    PAW_OK = 0,             /* passed, loaded, packed, encoded or read */
     PAW_MEMORY_SIZE = 1,    /* the memory does not have PAW_MEMORY_BYTES */
     PAW_FILE_LENGTH = 2,    /* the file is not 1 to 64 whole blocks */
     PAW_BLOCK_MARK = 3,     /* the block does not start with the mark 0xD0C1 */
@@ -56,23 +70,70 @@ enum paw_number {
     PAW_LAST_NOT_HALT = 14, /* the last instruction is not HALT */
     PAW_CODE_LENGTH = 15,   /* the code to pack is not 1 to PAW_MAX_CODE halfwords long */
     PAW_OUTPUT_LENGTH = 16, /* the output is not exactly the blocks that the code needs */
-    PAW_FIELDS = 17,        /* the fields form no instruction */
+    PAW_FIELDS = 17         /* the fields form no instruction */
+};
+
+/*
+ * How a step or a run ended. The number 0 has two names, since it says two things: that a step was
+ * completed, and that a run has spent its budget, though the program may not have done its work.
+ * That it has come to its end is PAW_HALT. Either call may be refused instead: PAW_MEMORY_SIZE.
+ */
+enum paw_ending {
+    PAW_COMPLETED = 0,        /* paw_step: the instruction was executed */
+    PAW_SPENT = 0,            /* paw_run: the budget is used up, whatever would come next */
     PAW_STOP_ODD_PC = 18,     /* the program counter is odd */
     PAW_STOP_UNDEFINED = 19,  /* the halfword at the program counter is no instruction */
     PAW_STOP_MISALIGNED = 20, /* a halfword load or store at an address that 4 does not divide */
     PAW_HALT = 255            /* the program counter is at HALT */
 };
 
-/* The manual ------------------------------------------------------------------------------- */
+/* What a number says, in words for people. 0 is "ok"; for a run see paw_run_text. */
+static inline const char *paw_text(uint32_t number)
+{
+    switch (number) {
+    case PAW_OK: return "ok";
+    case PAW_MEMORY_SIZE: return "the memory does not have 65,536 bytes";
+    case PAW_FILE_LENGTH: return "the file is not 1 to 64 whole blocks of 512 bytes";
+    case PAW_BLOCK_MARK: return "the block does not start with the mark 0xD0C1";
+    case PAW_BLOCK_SUM: return "the halfwords of the block do not sum to 0";
+    case PAW_BLOCK_NUMBER: return "the block tells a wrong number or a wrong count of blocks";
+    case PAW_BLOCK_USE: return "the block has a wrong count of code or is not 0 behind its code";
+    case PAW_BLOCK_WINDOW: return "the window differs from that of block 0";
+    case PAW_WINDOW: return "the window is misaligned, empty, on the code or beyond memory";
+    case PAW_UNDEFINED: return "the halfword is no instruction";
+    case PAW_OUT_OF_WINDOW: return "the load or store might leave the window";
+    case PAW_MISALIGNED: return "the address of a halfword might not be a multiple of 4";
+    case PAW_WRITES_PC: return "the instruction writes R15";
+    case PAW_BRANCH_TARGET: return "the branch leaves the code";
+    case PAW_LAST_NOT_HALT: return "the last instruction is not HALT";
+    case PAW_CODE_LENGTH: return "the code is not 1 to 15,936 halfwords long";
+    case PAW_OUTPUT_LENGTH: return "the output is not exactly the blocks that the code needs";
+    case PAW_FIELDS: return "the fields form no instruction";
+    case PAW_STOP_ODD_PC: return "the program counter is odd";
+    case PAW_STOP_UNDEFINED: return "the halfword at the program counter is no instruction";
+    case PAW_STOP_MISALIGNED: return "the address of a halfword is not a multiple of 4";
+    case PAW_HALT: return "halted";
+    default: return "no number of an answer";
+    }
+}
+
+/* The library and its manual --------------------------------------------------------------- */
+
+/* Answers the version of the library. It is PAW_VERSION if library and header belong together. */
+uint32_t paw_version(void);
 
 /* Answers byte i of the date on the title page of the manual that decides, and 0 past its end. */
 uint8_t paw_manual_date(size_t i);
 
 /* Instructions ----------------------------------------------------------------------------- */
 
-/* Kinds of instruction, and the fields of each in the order in which a word holds them. */
+/*
+ * Kinds of instruction, and the fields of each in the order in which a word holds them. rd, rs and
+ * rb are numbers of registers, 0 to 7 unless it says more; an immediate is 0 to 255. What
+ * an offset or an immediate counts in stands with the kind.
+ */
 enum paw_kind {
-    PAW_KIND_NONE = 0,
+    PAW_KIND_NONE = 0,      /* no instruction */
     PAW_KIND_MOV_IMM = 1,   /* rd, immediate */
     PAW_KIND_CMP_IMM = 2,   /* rd, immediate */
     PAW_KIND_AND = 3,       /* rs, rd */
@@ -80,18 +141,85 @@ enum paw_kind {
     PAW_KIND_ASR = 5,       /* rs, rd */
     PAW_KIND_TST = 6,       /* rs, rd */
     PAW_KIND_NEG = 7,       /* rs, rd */
-    PAW_KIND_CMP = 8,       /* rs, rd, both low */
-    PAW_KIND_ADD_HIGH = 9,  /* rs, rd */
-    PAW_KIND_CMP_HIGH = 10, /* rs, rd, one of them high */
-    PAW_KIND_MOV_HIGH = 11, /* rs, rd */
-    PAW_KIND_STR = 12,      /* offset field, rb, rd */
-    PAW_KIND_LDR = 13,      /* offset field, rb, rd */
-    PAW_KIND_STRB = 14,     /* offset field, rb, rd */
-    PAW_KIND_LDRB = 15,     /* offset field, rb, rd */
-    PAW_KIND_ADD_PC = 16,   /* rd, immediate */
-    PAW_KIND_BRANCH = 17,   /* condition, offset field */
+    PAW_KIND_CMP = 8,       /* rs, rd */
+    PAW_KIND_ADD_HIGH = 9,  /* rs, rd, each 0 to 15 */
+    PAW_KIND_CMP_HIGH = 10, /* rs, rd, each 0 to 15 and one of them at least 8 */
+    PAW_KIND_MOV_HIGH = 11, /* rs, rd, each 0 to 15 */
+    PAW_KIND_STR = 12,      /* offset, rb, rd; the offset is 0 to 31 and counts 4 bytes each */
+    PAW_KIND_LDR = 13,      /* offset, rb, rd; as STR */
+    PAW_KIND_STRB = 14,     /* offset, rb, rd; the offset is 0 to 31 and counts bytes */
+    PAW_KIND_LDRB = 15,     /* offset, rb, rd; as STRB */
+    PAW_KIND_ADD_PC = 16,   /* rd, immediate, which counts 4 bytes each */
+    PAW_KIND_BRANCH = 17,   /* condition, offset, a signed byte that counts instructions, 2 bytes
+                               each, from the branch itself */
     PAW_KIND_HALT = 18      /* no fields */
 };
+
+/* The manual's name of a kind, without the condition of a branch; "undefined" for no kind. */
+static inline const char *paw_kind_name(uint32_t kind)
+{
+    switch (kind) {
+    case PAW_KIND_MOV_IMM:
+    case PAW_KIND_MOV_HIGH: return "MOV";
+    case PAW_KIND_CMP_IMM:
+    case PAW_KIND_CMP:
+    case PAW_KIND_CMP_HIGH: return "CMP";
+    case PAW_KIND_AND: return "AND";
+    case PAW_KIND_EOR: return "EOR";
+    case PAW_KIND_ASR: return "ASR";
+    case PAW_KIND_TST: return "TST";
+    case PAW_KIND_NEG: return "NEG";
+    case PAW_KIND_ADD_HIGH:
+    case PAW_KIND_ADD_PC: return "ADD";
+    case PAW_KIND_STR: return "STR";
+    case PAW_KIND_LDR: return "LDR";
+    case PAW_KIND_STRB: return "STRB";
+    case PAW_KIND_LDRB: return "LDRB";
+    case PAW_KIND_BRANCH: return "B";
+    case PAW_KIND_HALT: return "HALT";
+    default: return "undefined";
+    }
+}
+
+/* Conditions of a branch, and the flags under which each holds. */
+enum paw_condition {
+    PAW_EQ = 0,  /* equal: Z */
+    PAW_NE = 1,  /* not equal: not Z */
+    PAW_CS = 2,  /* carry set, or unsigned higher or same: C */
+    PAW_CC = 3,  /* carry clear, or unsigned lower: not C */
+    PAW_MI = 4,  /* minus: N */
+    PAW_PL = 5,  /* plus or zero: not N */
+    PAW_VS = 6,  /* overflow: V */
+    PAW_VC = 7,  /* no overflow: not V */
+    PAW_HI = 8,  /* unsigned higher: C and not Z */
+    PAW_LS = 9,  /* unsigned lower or same: not C, or Z */
+    PAW_GE = 10, /* signed greater or equal: N is V */
+    PAW_LT = 11, /* signed less: N is not V */
+    PAW_GT = 12, /* signed greater: not Z, and N is V */
+    PAW_LE = 13  /* signed less or equal: Z, or N is not V */
+};
+
+/* The manual's name of a condition in capitals, as in BEQ; "??" for what is none. */
+static inline const char *paw_condition_name(uint32_t condition)
+{
+    switch (condition) {
+    case PAW_EQ: return "EQ";
+    case PAW_NE: return "NE";
+    case PAW_CS: return "CS";
+    case PAW_CC: return "CC";
+    case PAW_MI: return "MI";
+    case PAW_PL: return "PL";
+    case PAW_VS: return "VS";
+    case PAW_VC: return "VC";
+    case PAW_HI: return "HI";
+    case PAW_LS: return "LS";
+    case PAW_GE: return "GE";
+    case PAW_LT: return "LT";
+    case PAW_GT: return "GT";
+    case PAW_LE: return "LE";
+    default: return "??";
+    }
+}
 
 /* The word of a kind and its fields, 0 for fields that the kind does not have. */
 static inline uint32_t paw_word(uint8_t kind, uint8_t first, uint8_t second, uint8_t third)
@@ -140,28 +268,35 @@ struct paw_machine {
     bool v;            /* signed overflow */
 };
 
-static_assert(sizeof(struct paw_machine) == 36, "the library's layout has no padding");
-static_assert(offsetof(struct paw_machine, n) == 32, "the flags stand behind the registers");
-static_assert(offsetof(struct paw_machine, v) == 35, "a flag is one byte");
+PAW_STATIC_ASSERT(sizeof(struct paw_machine) == 36, "the library's layout has no padding");
+PAW_STATIC_ASSERT(offsetof(struct paw_machine, n) == 32, "the flags stand behind the registers");
+PAW_STATIC_ASSERT(offsetof(struct paw_machine, v) == 35, "a flag is one byte");
 
 /*
  * Executes the instruction at the program counter, on this very machine and memory. Answers
- * PAW_OK if it was completed, PAW_HALT, PAW_STOP_..., or PAW_MEMORY_SIZE; after all but PAW_OK,
- * machine and memory are as they were.
+ * PAW_COMPLETED, PAW_HALT, PAW_STOP_..., or PAW_MEMORY_SIZE; after all but PAW_COMPLETED, machine
+ * and memory are as they were.
  */
 uint32_t paw_step(struct paw_machine *machine, uint8_t *memory, size_t memory_len);
 
 /*
  * Executes up to `budget` instructions, on this very machine and memory. Answers how the run
  * ended and how many steps were completed; the two functions below take the answer apart. A run
- * that has completed `budget` steps, be it none, ends by PAW_OK, whatever the next one would do.
+ * that has completed `budget` steps, be it none, is PAW_SPENT, whatever the next one would do.
  */
 uint64_t paw_run(struct paw_machine *machine, uint8_t *memory, size_t memory_len, uint32_t budget);
 
-/* How a run ended: PAW_OK (budget spent), PAW_HALT, PAW_STOP_... or PAW_MEMORY_SIZE. */
+/* How a run ended: PAW_SPENT, PAW_HALT, PAW_STOP_... or PAW_MEMORY_SIZE. */
 static inline uint32_t paw_run_number(uint64_t answer)
 {
     return (uint32_t)answer;
+}
+
+/* How a run ended, in words for people: paw_text, but a spent budget is told as such. */
+static inline const char *paw_run_text(uint64_t answer)
+{
+    uint32_t number = paw_run_number(answer);
+    return number == PAW_SPENT ? "the budget is spent" : paw_text(number);
 }
 
 /* How many steps a run completed. */
@@ -255,6 +390,8 @@ static inline size_t paw_image_bytes(size_t code_len)
  */
 uint32_t paw_pack(const uint16_t *code, size_t code_len, uint16_t window_start,
                   uint16_t window_bytes, uint8_t *out, size_t out_len);
+
+#undef PAW_STATIC_ASSERT
 
 #ifdef __cplusplus
 }

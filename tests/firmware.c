@@ -1,21 +1,31 @@
 /*
  * The library as firmware uses it, through paw.h: the sample program P is packed, checked,
- * verified, loaded and run.
+ * verified, loaded and run. It is C11 and C++11 at once.
  *
  *     cc -std=c11 -Wall -Wextra -Werror -Iinclude tests/firmware.c target/staticlib/libpaw.a
  */
+#include "paw.h" /* first, since it needs no other header before it */
+
 #include <stdio.h>
 #include <string.h>
 
-#include "paw.h"
+#ifdef __cplusplus
+#define LANGUAGE "C++"
+#define ALIGNMENT_OF alignof
+#define ALWAYS static_assert
+#else
+#define LANGUAGE "C"
+#define ALIGNMENT_OF _Alignof
+#define ALWAYS _Static_assert
+#endif
 
-_Static_assert(sizeof(struct paw_machine) == 36, "size");
-_Static_assert(_Alignof(struct paw_machine) == 2, "alignment");
-_Static_assert(offsetof(struct paw_machine, regs) == 0, "regs");
-_Static_assert(offsetof(struct paw_machine, n) == 32, "n");
-_Static_assert(offsetof(struct paw_machine, z) == 33, "z");
-_Static_assert(offsetof(struct paw_machine, c) == 34, "c");
-_Static_assert(offsetof(struct paw_machine, v) == 35, "v");
+ALWAYS(sizeof(struct paw_machine) == 36, "size");
+ALWAYS(ALIGNMENT_OF(struct paw_machine) == 2, "alignment");
+ALWAYS(offsetof(struct paw_machine, regs) == 0, "regs");
+ALWAYS(offsetof(struct paw_machine, n) == 32, "n");
+ALWAYS(offsetof(struct paw_machine, z) == 33, "z");
+ALWAYS(offsetof(struct paw_machine, c) == 34, "c");
+ALWAYS(offsetof(struct paw_machine, v) == 35, "v");
 
 static int failures;
 
@@ -59,14 +69,114 @@ static uint64_t layout_word(uint64_t code_bytes, uint64_t start, uint64_t length
     return code_bytes << 16 | start << 32 | length << 48;
 }
 
-static void test_instructions(void)
+/* The header's version in three forms, and the library's. */
+static void test_version(void)
 {
+    char text[16];
+    snprintf(text, sizeof text, "%d.%d.%d", PAW_VERSION_MAJOR, PAW_VERSION_MINOR,
+             PAW_VERSION_PATCH);
+    EXPECT(strcmp(text, PAW_VERSION_STRING) == 0);
+    EXPECT(PAW_VERSION >> 16 == PAW_VERSION_MAJOR);
+    EXPECT((PAW_VERSION >> 8 & 255) == PAW_VERSION_MINOR);
+    EXPECT((PAW_VERSION & 255) == PAW_VERSION_PATCH);
+    EXPECT(paw_version() == PAW_VERSION);
+
     char date[18] = {0};
     for (size_t i = 0; i < sizeof date; i++) {
         date[i] = (char)paw_manual_date(i);
     }
     EXPECT(strcmp(date, "20 September 2015") == 0);
+}
 
+/* 1 to 20 and HALT have texts of their own, and whatever else comes has one too. */
+static void test_texts(void)
+{
+    const char *unknown = paw_text(21);
+    for (uint32_t number = 0; number <= 300; number++) {
+        bool named = number <= 20 || number == PAW_HALT;
+        EXPECT((strcmp(paw_text(number), unknown) != 0) == named);
+        for (uint32_t other = 0; named && other < number; other++) {
+            EXPECT(strcmp(paw_text(number), paw_text(other)) != 0);
+        }
+    }
+    EXPECT(strcmp(paw_text(PAW_BRANCH_TARGET), "the branch leaves the code") == 0);
+    EXPECT(strcmp(paw_text(UINT32_MAX), unknown) == 0);
+}
+
+/* The conditions are the numbers of the manual's table, in its order. */
+static void test_condition_names(void)
+{
+    static const char *const names[] = {"EQ", "NE", "CS", "CC", "MI", "PL", "VS", "VC",
+                                        "HI", "LS", "GE", "LT", "GT", "LE", "??", "??"};
+    ALWAYS(sizeof names / sizeof names[0] == PAW_LE + 3, "a name for each condition");
+    for (uint32_t condition = 0; condition < 16; condition++) {
+        EXPECT(strcmp(paw_condition_name(condition), names[condition]) == 0);
+    }
+    EXPECT(strcmp(paw_condition_name(UINT32_MAX), "??") == 0);
+}
+
+/* A branch with any condition and offset, and with what is no condition. */
+static void test_conditions(void)
+{
+    for (uint32_t fields = 0; fields <= 0xFFFF; fields++) {
+        uint8_t condition = (uint8_t)(fields >> 8), offset = (uint8_t)fields;
+        uint32_t word = paw_word(PAW_KIND_BRANCH, condition, offset, 0);
+        uint32_t encoded = paw_encode(word);
+        if (condition > PAW_LE) {
+            EXPECT(encoded == PAW_FIELDS);
+        } else {
+            EXPECT(paw_encoded_number(encoded) == PAW_OK);
+            EXPECT(paw_encoded_halfword(encoded) == (0xD000 | fields));
+            EXPECT(paw_decode(paw_encoded_halfword(encoded)) == word);
+        }
+    }
+}
+
+/* What a condition says of the flags is what a branch does: BGT two instructions on. */
+static void test_branching(void)
+{
+    memset(memory, 0, sizeof memory);
+    memory[0] = 2;
+    memory[1] = 0xD0 | PAW_GT;
+    for (unsigned flags = 0; flags < 16; flags++) {
+        struct paw_machine machine = {{0}, (flags & 8) != 0, (flags & 4) != 0, (flags & 2) != 0,
+                                      (flags & 1) != 0};
+        bool taken = !machine.z && machine.n == machine.v;
+        EXPECT(paw_step(&machine, memory, sizeof memory) == PAW_COMPLETED);
+        EXPECT(machine.regs[15] == (taken ? 4 : 2));
+    }
+}
+
+static void test_kinds(void)
+{
+    static const char *const names[] = {"undefined", "MOV", "CMP", "AND", "EOR", "ASR", "TST",
+                                        "NEG", "CMP", "ADD", "CMP", "MOV", "STR", "LDR",
+                                        "STRB", "LDRB", "ADD", "B", "HALT", "undefined"};
+    ALWAYS(sizeof names / sizeof names[0] == PAW_KIND_HALT + 2, "a name for each kind");
+    for (uint32_t kind = 0; kind <= PAW_KIND_HALT + 1; kind++) {
+        EXPECT(strcmp(paw_kind_name(kind), names[kind]) == 0);
+    }
+}
+
+/* The offset of a halfword counts fours of bytes, that of a byte counts bytes. */
+static void test_offsets(void)
+{
+    static const uint8_t kinds[] = {PAW_KIND_STR, PAW_KIND_STRB};
+    for (size_t i = 0; i < sizeof kinds; i++) {
+        struct paw_machine machine = {{0xBEEF, 0x1000}, false, false, false, false};
+        uint16_t halfword = paw_encoded_halfword(paw_encode(paw_word(kinds[i], 31, 1, 0)));
+        size_t address = 0x1000 + (kinds[i] == PAW_KIND_STR ? 4 * 31 : 31);
+        memset(memory, 0, sizeof memory);
+        memory[0] = (uint8_t)halfword;
+        memory[1] = (uint8_t)(halfword >> 8);
+        EXPECT(paw_step(&machine, memory, sizeof memory) == PAW_COMPLETED);
+        EXPECT(memory[address] == 0xEF);
+        EXPECT(memory[address + 1] == (kinds[i] == PAW_KIND_STR ? 0xBE : 0));
+    }
+}
+
+static void test_instructions(void)
+{
     uint32_t word = paw_decode(0x6001);
     EXPECT(paw_word_kind(word) == PAW_KIND_STR);
     EXPECT(paw_word_field(word, 0) == 0 && paw_word_field(word, 1) == 0);
@@ -166,25 +276,27 @@ static void test_loading(void)
 /* 0xBEEF masked with 252 is 236, and 256 more are 492. */
 static void test_running(void)
 {
-    struct paw_machine machine = {.regs = {0xBEEF}, .n = true, .z = true, .c = true, .v = true};
+    struct paw_machine machine = {{0xBEEF}, true, true, true, true};
     memset(memory + WINDOW_START, 0xA5, WINDOW_BYTES); /* shows both bytes of the store */
     memcpy(before, memory, sizeof memory);
 
     EXPECT(paw_run(&machine, memory, sizeof memory - 1, 1000) == PAW_MEMORY_SIZE);
-    EXPECT(paw_run(&machine, memory, sizeof memory, 0) == PAW_OK);
+    EXPECT(paw_run(&machine, memory, sizeof memory, 0) == PAW_SPENT);
     EXPECT(machine.regs[0] == 0xBEEF && machine.regs[15] == 0);
 
-    EXPECT(paw_step(&machine, memory, sizeof memory) == PAW_OK);
+    EXPECT(paw_step(&machine, memory, sizeof memory) == PAW_COMPLETED);
     EXPECT(machine.regs[1] == 252 && machine.regs[15] == 2);
     EXPECT(!machine.n && !machine.z && machine.c && machine.v);
 
     uint64_t spent = paw_run(&machine, memory, sizeof memory, 3);
-    EXPECT(paw_run_number(spent) == PAW_OK && paw_run_steps(spent) == 3);
+    EXPECT(paw_run_number(spent) == PAW_SPENT && paw_run_steps(spent) == 3);
+    EXPECT(strcmp(paw_run_text(spent), "the budget is spent") == 0);
     EXPECT(machine.regs[0] == 236 && machine.regs[2] == 256 && machine.regs[15] == 8);
     EXPECT(memcmp(memory, before, sizeof memory) == 0);
 
     uint64_t halted = paw_run(&machine, memory, sizeof memory, UINT32_MAX);
     EXPECT(paw_run_number(halted) == PAW_HALT && paw_run_steps(halted) == 2);
+    EXPECT(strcmp(paw_run_text(halted), "halted") == 0);
     EXPECT(machine.regs[0] == 492 && machine.regs[1] == 252 && machine.regs[2] == 256);
     EXPECT(machine.regs[3] == 0 && machine.regs[14] == 0 && machine.regs[15] == 12);
     EXPECT(!machine.n && !machine.z && !machine.c && !machine.v);
@@ -198,7 +310,8 @@ static void test_running(void)
 
 static void test_stops(void)
 {
-    struct paw_machine machine = {.regs = {[0] = 2, [15] = 1}};
+    struct paw_machine machine = {{2}, false, false, false, false};
+    machine.regs[15] = 1;
     memcpy(before, memory, sizeof memory);
     EXPECT(paw_step(&machine, memory, sizeof memory) == PAW_STOP_ODD_PC);
     machine.regs[15] = 14; /* behind the code: 0xEEEE */
@@ -212,6 +325,13 @@ static void test_stops(void)
 
 int main(void)
 {
+    test_version();
+    test_texts();
+    test_condition_names();
+    test_conditions();
+    test_branching();
+    test_kinds();
+    test_offsets();
     test_instructions();
     test_packing();
     test_checking();
@@ -221,7 +341,7 @@ int main(void)
     test_running();
     test_stops();
     if (failures == 0) {
-        printf("firmware: P packs, verifies, loads and runs through paw.h\n");
+        printf("firmware in " LANGUAGE ": P packs, verifies, loads and runs through paw.h\n");
     }
     return failures != 0;
 }

@@ -86,7 +86,7 @@ void compare_programs(void)
         }
         struct paw_machine start = { 0 };
         uint64_t answer = compare_run(&start, PAW_MEMORY_BYTES, 1000000, program.name, 0);
-        if (paw_run_number(answer) != PAW_OK) {
+        if (paw_run_number(answer) != PAW_SPENT) {
             printf("%s: ends, and is to run for ever\n", program.name);
             exit(1);
         }

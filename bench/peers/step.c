@@ -76,5 +76,5 @@ uint32_t PEER(step)(struct paw_machine *m, uint8_t *mem, size_t len)
         __builtin_unreachable();
     }
     regs[15] = (uint16_t)next;
-    return PAW_OK;
+    return PAW_COMPLETED;
 }

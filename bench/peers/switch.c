@@ -44,7 +44,7 @@ uint64_t PEER(switch_run)(struct paw_machine *m, uint8_t *mem, size_t len, uint3
     struct carry carry = carry_of(m->c, m->v);
     uint32_t pc = regs[15];
     uint32_t left = budget;
-    uint32_t number = PAW_OK;
+    uint32_t number = PAW_SPENT;
     if (UNLIKELY(pc & 1)) {
         if (left != 0)
             number = PAW_STOP_ODD_PC;

@@ -58,7 +58,7 @@ __attribute__((noinline)) static struct left_over end(struct state *s, uint64_t 
     {                                                                                             \
         pc = (to);                                                                                \
         if (UNLIKELY(--left == 0))                                                                \
-            return end(s, pc, left, nz, PAW_OK);                                                  \
+            return end(s, pc, left, nz, PAW_SPENT);                                               \
         h = get16(mem + pc);                                                                      \
         TAIL_CALL handlers[h >> 6](ARGUMENTS);                                                    \
     }
@@ -66,7 +66,7 @@ __attribute__((noinline)) static struct left_over end(struct state *s, uint64_t 
 #define WRITE_PC(to)                                                                              \
     {                                                                                             \
         if (UNLIKELY((to)&1))                                                                     \
-            return end(s, to, left - 1, nz, left == 1 ? PAW_OK : PAW_STOP_ODD_PC);                \
+            return end(s, to, left - 1, nz, left == 1 ? PAW_SPENT : PAW_STOP_ODD_PC);             \
         JUMP(to);                                                                                 \
     }
 
@@ -86,7 +86,7 @@ uint64_t PEER(tail_run)(struct paw_machine *m, uint8_t *mem, size_t len, uint32_
     if (len != PAW_MEMORY_BYTES)
         return PAW_MEMORY_SIZE;
     if (budget == 0)
-        return PAW_OK;
+        return PAW_SPENT;
     uint64_t pc = m->regs[15];
     if (UNLIKELY(pc & 1))
         return PAW_STOP_ODD_PC;

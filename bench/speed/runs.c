@@ -44,7 +44,7 @@ static void step(size_t engine)
     uint32_t answers = 0;
     for (uint32_t k = 0; k < STEP_CALLS; k++)
         answers |= call(&machines[engine], memories[engine], PAW_MEMORY_BYTES);
-    must(answers == PAW_OK, "a step ended the program");
+    must(answers == PAW_COMPLETED, "a step ended the program");
 }
 
 static struct series runs[PROGRAM_COUNT], steps[PROGRAM_COUNT];
