@@ -1,7 +1,8 @@
 //! The machine: one step, and a run with a budget of steps.
 
-use std::fmt;
-use std::mem::{align_of, offset_of, size_of};
+use core::error::Error;
+use core::fmt;
+use core::mem::{align_of, offset_of, size_of};
 
 use crate::{Refusal, ffi};
 
@@ -53,23 +54,32 @@ pub enum Stop {
 
 impl Stop {
     /// The stop's number.
+    #[must_use]
     pub const fn number(self) -> u8 {
         self as u8
+    }
+
+    /// What is wrong, without the number.
+    #[must_use]
+    pub const fn complaint(self) -> &'static str {
+        match self {
+            Stop::OddPc => "the program counter is odd",
+            Stop::Undefined => "the halfword at the program counter is no instruction",
+            Stop::Misaligned => "the address of a halfword is not a multiple of 4",
+        }
     }
 }
 
 impl fmt::Display for Stop {
     fn fmt(&self, f: &mut fmt::Formatter<'_>) -> fmt::Result {
-        let words = match self {
-            Stop::OddPc => "the program counter is odd",
-            Stop::Undefined => "the halfword at the program counter is no instruction",
-            Stop::Misaligned => "the address of a halfword is not a multiple of 4",
-        };
-        write!(f, "stop {}: {words}", self.number())
+        write!(f, "stop {}: {}", self.number(), self.complaint())
     }
 }
 
+impl Error for Stop {}
+
 /// What became of one step.
+#[must_use = "a step may have halted or stopped"]
 #[derive(Clone, Copy, Debug, PartialEq, Eq, Hash)]
 pub enum StepOutcome {
     /// One instruction was executed.
@@ -80,7 +90,18 @@ pub enum StepOutcome {
     Stopped(Stop),
 }
 
+impl fmt::Display for StepOutcome {
+    fn fmt(&self, f: &mut fmt::Formatter<'_>) -> fmt::Result {
+        match self {
+            StepOutcome::Completed => f.write_str("completed"),
+            StepOutcome::Halted => f.write_str("halted"),
+            StepOutcome::Stopped(stop) => stop.fmt(f),
+        }
+    }
+}
+
 /// Why a run ended.
+#[must_use = "a run may have spent its budget or stopped"]
 #[derive(Clone, Copy, Debug, PartialEq, Eq, Hash)]
 pub enum RunOutcome {
     /// The budget is used up, whatever would have come next.
@@ -91,7 +112,18 @@ pub enum RunOutcome {
     Stopped(Stop),
 }
 
+impl fmt::Display for RunOutcome {
+    fn fmt(&self, f: &mut fmt::Formatter<'_>) -> fmt::Result {
+        match self {
+            RunOutcome::Spent => f.write_str("the budget is spent"),
+            RunOutcome::Halted => f.write_str("halted"),
+            RunOutcome::Stopped(stop) => stop.fmt(f),
+        }
+    }
+}
+
 /// The end of a run.
+#[must_use = "a run may have spent its budget or stopped"]
 #[derive(Clone, Copy, Debug, PartialEq, Eq, Hash)]
 pub struct Run {
     /// Why it ended.
@@ -144,8 +176,23 @@ pub fn step(machine: &mut Machine, memory: &mut [u8]) -> Result<StepOutcome, Ref
     }
 }
 
-/// Executes up to `budget` instructions. Check 1 refuses a memory that does not have
-/// [`MEMORY_BYTES`].
+/// Executes up to `budget` instructions, changing this very machine and memory. Check 1 refuses a
+/// memory that does not have [`MEMORY_BYTES`].
+///
+/// A run that has completed `budget` steps, be it none, is [`RunOutcome::Spent`], whatever the
+/// next one would do: the program may not have come to its end.
+///
+/// ```
+/// use paw::{Machine, Run, RunOutcome};
+///
+/// let mut memory = vec![0; paw::MEMORY_BYTES];
+/// memory[..2].copy_from_slice(&0x2307_u16.to_le_bytes()); // MOV R3, #7
+/// let mut machine = Machine::default();
+/// let spent = Run { outcome: RunOutcome::Spent, steps: 1 };
+/// assert_eq!(paw::run(&mut machine, &mut memory, 1), Ok(spent));
+/// let halted = Run { outcome: RunOutcome::Halted, steps: 0 };
+/// assert_eq!(paw::run(&mut machine, &mut memory, 1), Ok(halted));
+/// ```
 pub fn run(machine: &mut Machine, memory: &mut [u8], budget: u32) -> Result<Run, Refusal> {
     let answer = ffi::run(machine, memory, budget);
     let steps = (answer >> 32) as u32;

@@ -5,6 +5,7 @@
 use crate::cpu::Machine;
 
 unsafe extern "C" {
+    fn paw_version() -> u32;
     fn paw_manual_date(i: usize) -> u8;
     fn paw_decode(h: u16) -> u32;
     fn paw_encode(word: u32) -> u32;
@@ -15,6 +16,11 @@ unsafe extern "C" {
     fn paw_load(file: *const u8, len: usize, memory: *mut u8, memory_len: usize) -> u64;
     fn paw_pack(code: *const u16, len: usize, w: u16, l: u16, out: *mut u8, out_len: usize) -> u32;
     fn paw_block(file: *const u8, len: usize, n: usize) -> u64;
+}
+
+pub fn version() -> u32 {
+    // SAFETY: takes nothing and answers a number.
+    unsafe { paw_version() }
 }
 
 pub fn manual_date_byte(i: usize) -> u8 {

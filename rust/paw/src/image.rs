@@ -1,8 +1,8 @@
 //! Image files: checking them, reading their blocks, packing them.
 
-use std::iter::FusedIterator;
-use std::ops::Range;
-use std::slice::ChunksExact;
+use core::iter::FusedIterator;
+use core::ops::Range;
+use core::slice::ChunksExact;
 
 use crate::{Refusal, ffi};
 
@@ -38,11 +38,13 @@ impl Layout {
     }
 
     /// The bytes of memory that the code occupies.
+    #[must_use]
     pub fn code(self) -> Range<usize> {
         0..self.c.into()
     }
 
     /// The bytes of memory that the window occupies.
+    #[must_use]
     pub fn window(self) -> Range<usize> {
         let start = usize::from(self.w);
         start..start + usize::from(self.l)
@@ -75,6 +77,7 @@ pub fn check(file: &[u8]) -> Result<Layout, Refusal> {
 ///
 /// The file is checked once. It is proved of the library's reader that an accepted file's block
 /// `n` is its bytes from `512 * n` on and that none is left after those, so no block costs a call.
+#[must_use = "a reader gives nothing until it is asked"]
 #[derive(Clone, Debug)]
 pub struct BlockReader<'a> {
     blocks: ChunksExact<'a, u8>,
@@ -130,12 +133,21 @@ pub fn block(file: &[u8], n: usize) -> Result<Option<&[u8]>, Refusal> {
 }
 
 /// Bytes of the image of `code` halfwords: the output that [`pack`] asks for.
+#[must_use]
 pub const fn image_bytes(code: usize) -> usize {
     code.div_ceil(BLOCK_CODE) * BLOCK_BYTES
 }
 
-/// Puts checks 15, 8 and 16, then writes code and window as an image. A refusal changes no byte.
-/// The code is not verified.
+/// Puts checks 15, 8 and 16, then writes code and window (its start `w` and its length `l`, in
+/// bytes) as an image that fills `out`. A refusal changes no byte. The code is not verified.
+///
+/// ```
+/// let code = [0x0000]; // HALT
+/// let mut file = [0; paw::image_bytes(1)];
+/// assert_eq!(paw::pack(&code, 256, 64, &mut file), Ok(()));
+/// let refusal = paw::pack(&code, 256, 64, &mut file[1..]).unwrap_err();
+/// assert_eq!(refusal.check, paw::Check::OutputLength);
+/// ```
 pub fn pack(code: &[u16], w: u16, l: u16, out: &mut [u8]) -> Result<(), Refusal> {
     match ffi::pack(code, w, l, out) {
         0 => Ok(()),

@@ -1,46 +1,157 @@
 //! Instructions, and the words that carry them across the boundary: the kind in the top byte,
 //! then the fields in their order.
 
-use crate::{Refusal, ffi};
+use core::fmt;
 
-/// One instruction, its fields as the halfword holds them.
-#[derive(Clone, Copy, Debug, PartialEq, Eq)]
-#[allow(missing_docs)] // `rd` and `rs` are registers, `rb` is a base register.
+use crate::{Condition, Refusal, ffi};
+
+/// One instruction, its fields as the halfword holds them. `rd`, `rs` and `rb` are numbers of
+/// registers, 0 to 7 unless it says more.
+///
+/// It is displayed in the manual's notation. Offsets are told in bytes, that of a branch from the
+/// branch itself and with its sign.
+///
+/// ```
+/// use paw::{Condition, Instruction};
+///
+/// let text = |halfword| paw::decode(halfword).unwrap().to_string();
+/// assert_eq!(text(0x23FF), "MOV R3, #255");
+/// assert_eq!(text(0x4540), "CMP R0, R8");
+/// assert_eq!(text(0x6891), "LDR R1, [R2, #8]");
+/// assert_eq!(text(0x7891), "LDRB R1, [R2, #2]");
+/// assert_eq!(text(0xA001), "ADD R0, PC, #4");
+/// assert_eq!(text(0xD0FE), "BEQ -4");
+/// assert_eq!(text(0x0000), "HALT");
+/// ```
+#[derive(Clone, Copy, Debug, PartialEq, Eq, Hash)]
 pub enum Instruction {
     /// MOV of an immediate.
-    MovImm { rd: u8, imm: u8 },
+    MovImm {
+        /// The register that is set.
+        rd: u8,
+        /// The value.
+        imm: u8,
+    },
     /// CMP with an immediate.
-    CmpImm { rd: u8, imm: u8 },
+    CmpImm {
+        /// The register that is compared.
+        rd: u8,
+        /// What it is compared with.
+        imm: u8,
+    },
     /// AND.
-    And { rs: u8, rd: u8 },
+    And {
+        /// The second operand.
+        rs: u8,
+        /// The first operand, and where the result goes.
+        rd: u8,
+    },
     /// EOR.
-    Eor { rs: u8, rd: u8 },
+    Eor {
+        /// The second operand.
+        rs: u8,
+        /// The first operand, and where the result goes.
+        rd: u8,
+    },
     /// ASR.
-    Asr { rs: u8, rd: u8 },
+    Asr {
+        /// By how many bits: its low byte.
+        rs: u8,
+        /// What is shifted, and where the result goes.
+        rd: u8,
+    },
     /// TST.
-    Tst { rs: u8, rd: u8 },
+    Tst {
+        /// The second operand.
+        rs: u8,
+        /// The first operand.
+        rd: u8,
+    },
     /// NEG.
-    Neg { rs: u8, rd: u8 },
+    Neg {
+        /// What is negated.
+        rs: u8,
+        /// Where the result goes.
+        rd: u8,
+    },
     /// CMP of two low registers.
-    Cmp { rs: u8, rd: u8 },
-    /// ADD of two registers.
-    AddHigh { rs: u8, rd: u8 },
-    /// CMP of two registers, one of them high.
-    CmpHigh { rs: u8, rd: u8 },
-    /// MOV between registers.
-    MovHigh { rs: u8, rd: u8 },
+    Cmp {
+        /// What is subtracted.
+        rs: u8,
+        /// What it is subtracted from.
+        rd: u8,
+    },
+    /// ADD of two registers, each 0 to 15.
+    AddHigh {
+        /// The second operand.
+        rs: u8,
+        /// The first operand, and where the result goes.
+        rd: u8,
+    },
+    /// CMP of two registers, each 0 to 15 and one of them at least 8.
+    CmpHigh {
+        /// What is subtracted.
+        rs: u8,
+        /// What it is subtracted from.
+        rd: u8,
+    },
+    /// MOV between registers, each 0 to 15.
+    MovHigh {
+        /// What is copied.
+        rs: u8,
+        /// Where it goes.
+        rd: u8,
+    },
     /// STR.
-    Str { offset: u8, rb: u8, rd: u8 },
+    Str {
+        /// 0 to 31, counting 4 bytes each.
+        offset: u8,
+        /// The base of the address.
+        rb: u8,
+        /// What is stored.
+        rd: u8,
+    },
     /// LDR.
-    Ldr { offset: u8, rb: u8, rd: u8 },
+    Ldr {
+        /// 0 to 31, counting 4 bytes each.
+        offset: u8,
+        /// The base of the address.
+        rb: u8,
+        /// Where the halfword goes.
+        rd: u8,
+    },
     /// STRB.
-    Strb { offset: u8, rb: u8, rd: u8 },
+    Strb {
+        /// 0 to 31, counting bytes.
+        offset: u8,
+        /// The base of the address.
+        rb: u8,
+        /// Whose low byte is stored.
+        rd: u8,
+    },
     /// LDRB.
-    Ldrb { offset: u8, rb: u8, rd: u8 },
+    Ldrb {
+        /// 0 to 31, counting bytes.
+        offset: u8,
+        /// The base of the address.
+        rb: u8,
+        /// Where the byte goes.
+        rd: u8,
+    },
     /// ADD Rd, PC.
-    AddPc { rd: u8, imm: u8 },
+    AddPc {
+        /// Where the sum goes.
+        rd: u8,
+        /// What is added, counting 4 bytes each.
+        imm: u8,
+    },
     /// A conditional branch.
-    Branch { cond: u8, offset: u8 },
+    Branch {
+        /// When it is taken.
+        cond: Condition,
+        /// Where it goes: instructions, 2 bytes each, from the branch itself.
+        offset: i8,
+    },
     /// HALT.
     Halt,
 }
@@ -67,16 +178,17 @@ impl Instruction {
             Strb { offset, rb, rd } => (14, offset, rb, rd),
             Ldrb { offset, rb, rd } => (15, offset, rb, rd),
             AddPc { rd, imm } => (16, rd, imm, 0),
-            Branch { cond, offset } => (17, cond, offset, 0),
+            Branch { cond, offset } => (17, cond.number(), offset as u8, 0),
             Halt => (18, 0, 0, 0),
         };
         u32::from_be_bytes([kind, a, b, c])
     }
 
-    /// The instruction of a word, or nothing where the word names none.
+    /// The instruction of a word, or nothing for the word 0.
     fn from_word(word: u32) -> Option<Self> {
         let [kind, a, b, c] = word.to_be_bytes();
         Some(match kind {
+            0 => return None,
             1 => MovImm { rd: a, imm: b },
             2 => CmpImm { rd: a, imm: b },
             3 => And { rs: a, rd: b },
@@ -93,23 +205,52 @@ impl Instruction {
             14 => Strb { offset: a, rb: b, rd: c },
             15 => Ldrb { offset: a, rb: b, rd: c },
             16 => AddPc { rd: a, imm: b },
-            17 => Branch { cond: a, offset: b },
+            17 => match Condition::from_number(a) {
+                Some(cond) => Branch { cond, offset: b as i8 },
+                None => panic!("libpaw.a decodes a branch with condition {a}"),
+            },
             18 => Halt,
-            _ => return None,
+            _ => panic!("libpaw.a decodes to kind {kind}"),
         })
+    }
+}
+
+impl fmt::Display for Instruction {
+    fn fmt(&self, f: &mut fmt::Formatter<'_>) -> fmt::Result {
+        match *self {
+            MovImm { rd, imm } => write!(f, "MOV R{rd}, #{imm}"),
+            CmpImm { rd, imm } => write!(f, "CMP R{rd}, #{imm}"),
+            And { rs, rd } => write!(f, "AND R{rd}, R{rs}"),
+            Eor { rs, rd } => write!(f, "EOR R{rd}, R{rs}"),
+            Asr { rs, rd } => write!(f, "ASR R{rd}, R{rs}"),
+            Tst { rs, rd } => write!(f, "TST R{rd}, R{rs}"),
+            Neg { rs, rd } => write!(f, "NEG R{rd}, R{rs}"),
+            Cmp { rs, rd } | CmpHigh { rs, rd } => write!(f, "CMP R{rd}, R{rs}"),
+            AddHigh { rs, rd } => write!(f, "ADD R{rd}, R{rs}"),
+            MovHigh { rs, rd } => write!(f, "MOV R{rd}, R{rs}"),
+            Str { offset, rb, rd } => write!(f, "STR R{rd}, [R{rb}, #{}]", 4 * u16::from(offset)),
+            Ldr { offset, rb, rd } => write!(f, "LDR R{rd}, [R{rb}, #{}]", 4 * u16::from(offset)),
+            Strb { offset, rb, rd } => write!(f, "STRB R{rd}, [R{rb}, #{offset}]"),
+            Ldrb { offset, rb, rd } => write!(f, "LDRB R{rd}, [R{rb}, #{offset}]"),
+            AddPc { rd, imm } => write!(f, "ADD R{rd}, PC, #{}", 4 * u16::from(imm)),
+            Branch { cond, offset } => write!(f, "B{cond} {:+}", 2 * i16::from(offset)),
+            Halt => f.write_str("HALT"),
+        }
     }
 }
 
 /// The instruction that a halfword says, or nothing where it is undefined.
 ///
 /// ```
-/// use paw::{decode, encode, Check, Instruction};
+/// use paw::{decode, encode, Check, Condition, Instruction};
 ///
 /// assert_eq!(decode(0xA001), Some(Instruction::AddPc { rd: 0, imm: 1 }));
+/// assert_eq!(decode(0xD1FE), Some(Instruction::Branch { cond: Condition::Ne, offset: -2 }));
 /// assert_eq!(decode(0x0001), None);
 /// assert_eq!(encode(Instruction::AddPc { rd: 0, imm: 1 }), Ok(0xA001));
 /// assert_eq!(encode(Instruction::AddPc { rd: 8, imm: 1 }).unwrap_err().check, Check::Fields);
 /// ```
+#[must_use]
 pub fn decode(halfword: u16) -> Option<Instruction> {
     Instruction::from_word(ffi::decode(halfword))
 }

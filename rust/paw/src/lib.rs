@@ -4,9 +4,50 @@
 //! a plain number, into a type. What each function answers is proved in the library; this crate
 //! only carries it over. An answer that the library cannot give makes the function panic: then
 //! this crate and the library do not belong together.
+//!
+//! It needs no standard library and no allocator. It links the `libpaw.a` that `rt staticlib paw`
+//! writes in its repository, or the one in the folder that the environment variable `PAW_LIB_DIR`
+//! names when it is built. That library is for x86-64 and Linux.
+//!
+//! A program travels as an image file: [`pack`] makes one, [`check`] reads what it says of itself,
+//! [`verify`] decides whether it can be run without harm, [`load`] puts it into memory if so, and
+//! [`run`] runs it.
+//!
+//! ```
+//! use paw::{Condition, Instruction, Machine, RunOutcome};
+//!
+//! // Counts R0 down from 3.
+//! let program = [
+//!     Instruction::MovImm { rd: 0, imm: 3 },
+//!     Instruction::MovImm { rd: 1, imm: 1 },
+//!     Instruction::Neg { rs: 1, rd: 1 },
+//!     Instruction::AddHigh { rs: 1, rd: 0 },
+//!     Instruction::Branch { cond: Condition::Ne, offset: -1 },
+//!     Instruction::Halt,
+//! ];
+//! let mut code = [0; 6];
+//! for (halfword, instruction) in code.iter_mut().zip(program) {
+//!     *halfword = paw::encode(instruction)?;
+//! }
+//! let mut file = [0; paw::image_bytes(6)];
+//! paw::pack(&code, 256, 64, &mut file)?;
+//!
+//! let mut memory = vec![0; paw::MEMORY_BYTES];
+//! paw::load(&file, &mut memory)?;
+//! let mut machine = Machine::default();
+//! let run = paw::run(&mut machine, &mut memory, 1_000)?;
+//! match run.outcome {
+//!     RunOutcome::Halted => assert_eq!((run.steps, machine.regs[0]), (9, 0)),
+//!     RunOutcome::Spent => panic!("a thousand steps are not enough"),
+//!     RunOutcome::Stopped(stop) => panic!("{stop}"), // never, after a load
+//! }
+//! # Ok::<(), paw::Refusal>(())
+//! ```
 
+#![no_std]
 #![deny(unsafe_code)]
 
+mod condition;
 mod cpu;
 mod date;
 mod ffi;
@@ -15,9 +56,11 @@ mod instruction;
 mod loader;
 mod refusal;
 mod verifier;
+mod version;
 
+pub use condition::Condition;
 pub use cpu::{MEMORY_BYTES, Machine, PC, Run, RunOutcome, StepOutcome, Stop, run, step};
-pub use date::manual_date;
+pub use date::{ManualDate, manual_date};
 pub use image::{
     BLOCK_BYTES, BLOCK_CODE, BlockReader, Layout, MAX_BLOCKS, MAX_CODE, block, check, image_bytes,
     pack,
@@ -26,3 +69,4 @@ pub use instruction::{Instruction, decode, encode};
 pub use loader::load;
 pub use refusal::{Check, Place, Refusal};
 pub use verifier::verify;
+pub use version::{VERSION, Version, version};

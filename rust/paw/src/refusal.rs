@@ -1,9 +1,11 @@
 //! The answer "no": which check failed, and where.
 
-use std::fmt;
+use core::error::Error;
+use core::fmt;
 
 /// What can be asked of a memory, a file, an instruction or a caller; its number is the one that
-/// the board's papers give it.
+/// the board's papers give it. Later versions may ask more.
+#[non_exhaustive]
 #[derive(Clone, Copy, Debug, PartialEq, Eq, Hash)]
 #[repr(u8)]
 pub enum Check {
@@ -66,17 +68,20 @@ impl Check {
     ];
 
     /// The check's number.
+    #[must_use]
     pub const fn number(self) -> u8 {
         self as u8
     }
 
     /// The check with a number, if there is one.
+    #[must_use]
     pub fn from_number(number: u8) -> Option<Self> {
         Self::ALL.into_iter().find(|check| check.number() == number)
     }
 
     /// What is wrong where the check fails.
-    const fn complaint(self) -> &'static str {
+    #[must_use]
+    pub const fn complaint(self) -> &'static str {
         match self {
             Check::MemorySize => "the memory does not have 65,536 bytes",
             Check::FileLength => "the file is not 1 to 64 whole blocks of 512 bytes",
@@ -88,7 +93,7 @@ impl Check {
             Check::Window => "the window is misaligned, empty, on the code or beyond memory",
             Check::Defined => "the halfword is no instruction",
             Check::InWindow => "the load or store might leave the window",
-            Check::Aligned => "the address might not be a multiple of 4",
+            Check::Aligned => "the address of a halfword might not be a multiple of 4",
             Check::KeepsPc => "the instruction writes R15",
             Check::BranchTarget => "the branch leaves the code",
             Check::LastIsHalt => "the last instruction is not HALT",
@@ -99,7 +104,8 @@ impl Check {
     }
 }
 
-/// Where a check failed.
+/// Where a check failed. Later versions may have other places.
+#[non_exhaustive]
 #[derive(Clone, Copy, Debug, PartialEq, Eq, Hash)]
 pub enum Place {
     /// The check is about the whole.
@@ -143,11 +149,13 @@ impl Refusal {
     }
 
     /// The check's number.
+    #[must_use]
     pub const fn number(self) -> u8 {
         self.check.number()
     }
 
     /// The place as one number: the block, the byte address, or 0.
+    #[must_use]
     pub const fn place_number(self) -> u16 {
         match self.place {
             Place::Nowhere => 0,
@@ -168,4 +176,4 @@ impl fmt::Display for Refusal {
     }
 }
 
-impl std::error::Error for Refusal {}
+impl Error for Refusal {}
