@@ -67,12 +67,108 @@ static void load(size_t maker)
     answer = makers[maker].load(image->file, image->len, memory, sizeof memory);
 }
 
+/* What only the library is asked for: the same image, or one halfword. */
+
+static struct paw_machine machine;
+static uint16_t halfword;
+static uint32_t word;
+
+static void check(size_t maker)
+{
+    const struct image *image = random_image();
+    answer = makers[maker].check(image->file, image->len);
+}
+
+static void block(size_t maker)
+{
+    const struct image *image = random_image();
+    answer = paw_block(image->file, image->len, maker);
+}
+
+static void pack(size_t maker)
+{
+    static uint8_t out[PAW_MAX_BLOCKS * PAW_BLOCK_BYTES];
+    const struct image *image = random_image();
+    size_t n = image->n - 1; /* so that there is an unused halfword to write as well */
+    answer = makers[maker].pack(image->code, n, image->w, image->l, out, image->len);
+}
+
+static void run(size_t maker)
+{
+    answer = engines[maker].run(&machine, memory, sizeof memory, 2);
+}
+
+static void step(size_t maker)
+{
+    answer = makers[maker].step(&machine, memory, sizeof memory);
+}
+
+static void decode(size_t maker)
+{
+    answer = paw_decode(halfword) + maker;
+}
+
+static void encode(size_t maker)
+{
+    answer = paw_encode(word) + maker;
+}
+
+static void manual_date(size_t maker)
+{
+    answer = paw_manual_date(maker);
+}
+
+static void version(size_t maker)
+{
+    answer = paw_version() + maker;
+}
+
 static void print_row(const char *name, void (*call)(size_t))
 {
     printf("| %s |", name);
     for (size_t i = 0; i < MAKERS; i++)
         printf(" %zu |", depth(call, i) - depth(nothing, i));
     printf("\n");
+}
+
+/* The machine and the memory for a step of the halfword. */
+static void set_up(uint32_t h)
+{
+    halfword = (uint16_t)h;
+    word = paw_decode(halfword);
+    machine = (struct paw_machine){ .regs = { [1] = 3, [2] = 0x8004 } };
+    memcpy(memory, &halfword, sizeof halfword);
+}
+
+/* The most that a call takes, of halfwords that differ in their upper ten bits: all kinds. */
+static size_t deepest(void (*call)(size_t))
+{
+    size_t most = 0;
+    for (uint32_t upper = 0; upper < 1024; upper++) {
+        set_up(upper << 6 | 0x0a); /* of R1 and R2 */
+        size_t bytes = depth(call, LIBRARY) - depth(nothing, LIBRARY);
+        most = bytes > most ? bytes : most;
+    }
+    return most;
+}
+
+/* Every function of the library. */
+static void print_functions(void)
+{
+    static const struct {
+        const char *name;
+        void (*call)(size_t);
+    } functions[] = {
+        { "paw_load", load },     { "paw_verify", verify },
+        { "paw_check", check },   { "paw_block", block },
+        { "paw_pack", pack },     { "paw_run", run },
+        { "paw_step", step },     { "paw_encode", encode },
+        { "paw_decode", decode }, { "paw_manual_date", manual_date },
+        { "paw_version", version },
+    };
+    printf("| function | bytes of stack |\n|---|---|\n");
+    for (size_t i = 0; i < sizeof functions / sizeof functions[0]; i++)
+        printf("| `%s` | %zu |\n", functions[i].name, deepest(functions[i].call));
 }
 
 void print_stacks(void)
@@ -87,4 +183,6 @@ void print_stacks(void)
     printf("\n");
     print_row("verify, 64 blocks", verify);
     print_row("load, 64 blocks", load);
+    printf("\n");
+    print_functions();
 }
