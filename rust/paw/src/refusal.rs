@@ -47,7 +47,7 @@ pub enum Check {
 
 impl Check {
     /// Every check, by number.
-    pub const ALL: [Check; 17] = [
+    pub const ALL: &'static [Check] = &[
         Check::MemorySize,
         Check::FileLength,
         Check::BlockMark,
@@ -76,7 +76,7 @@ impl Check {
     /// The check with a number, if there is one.
     #[must_use]
     pub fn from_number(number: u8) -> Option<Self> {
-        Self::ALL.into_iter().find(|check| check.number() == number)
+        Self::ALL.iter().copied().find(|check| check.number() == number)
     }
 
     /// What is wrong where the check fails.

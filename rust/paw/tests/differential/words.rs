@@ -14,7 +14,7 @@ fn in_header(words: &str) -> bool {
 #[test]
 fn every_check_has_a_number_and_words() {
     let mut words = HashSet::new();
-    for (number, check) in (1..).zip(Check::ALL) {
+    for (number, check) in (1..).zip(Check::ALL.iter().copied()) {
         assert_eq!((check.number(), Check::from_number(number)), (number, Some(check)));
         let refusal = Refusal { check, place: Place::Nowhere };
         let text = refusal.to_string();
@@ -25,6 +25,7 @@ fn every_check_has_a_number_and_words() {
         assert!(words.insert(complaint.to_string()), "{complaint}");
         assert!(in_header(complaint), "{complaint}");
     }
+    assert_eq!(words.len(), 17);
     assert_eq!([0, 18, 255].map(Check::from_number), [None; 3]);
 }
 
