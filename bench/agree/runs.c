@@ -109,11 +109,13 @@ void compare_steps(long cases)
         struct paw_machine want = start;
         uint32_t answer = paw_step(&want, memories[LIBRARY], len);
         counts[answer]++;
-        for (size_t i = 1; i < MAKERS; i++) {
+        for (size_t i = 1; i < ENGINES; i++) { /* a memory each: steps, then those by value */
+            const struct maker *maker = &makers[i < MAKERS ? i : i - MAKERS + 1];
+            step_function *step = i < MAKERS ? maker->step : maker->step_by_value;
             struct paw_machine m = start;
-            if (makers[i].step(&m, memories[i], len) != answer ||
-                memcmp(&m, &want, sizeof m) != 0 || !same_memory(i))
-                fail("step", makers[i].name, n);
+            if (step(&m, memories[i], len) != answer || memcmp(&m, &want, sizeof m) != 0 ||
+                !same_memory(i))
+                fail("step", maker->name, n);
         }
     }
     printf("%ld steps agree; endings:", cases);

@@ -2,12 +2,12 @@
 
 #define MADE_BY(compiler)                                                                         \
     {                                                                                             \
-        #compiler, step_##compiler, check_##compiler, verify_##compiler, load_##compiler,         \
-            pack_##compiler                                                                       \
+        #compiler, step_##compiler, step_by_value_##compiler, check_##compiler,                   \
+            verify_##compiler, load_##compiler, pack_##compiler                                   \
     }
 
 const struct maker makers[MAKERS] = {
-    { "libpaw", paw_step, paw_check, paw_verify, paw_load, paw_pack },
+    { "libpaw", paw_step, paw_step, paw_check, paw_verify, paw_load, paw_pack },
     MADE_BY(gcc),
 #if WITH_CLANG
     MADE_BY(clang),

@@ -12,7 +12,7 @@ typedef uint32_t pack_function(const uint16_t *, size_t, uint16_t, uint16_t, uin
 
 #define DECLARE_PEERS(compiler)                                                                   \
     extern run_function switch_run_##compiler, tail_run_##compiler;                               \
-    extern step_function step_##compiler;                                                         \
+    extern step_function step_##compiler, step_by_value_##compiler;                               \
     extern file_function check_##compiler, verify_##compiler;                                     \
     extern load_function load_##compiler;                                                         \
     extern pack_function pack_##compiler;
@@ -25,7 +25,7 @@ enum { LIBRARY, GCC, MAKERS = GCC + 1 + WITH_CLANG };
 
 extern const struct maker {
     const char *name;
-    step_function *step;
+    step_function *step, *step_by_value;
     file_function *check, *verify;
     load_function *load;
     pack_function *pack;

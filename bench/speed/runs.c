@@ -38,16 +38,25 @@ static void run(size_t engine)
     must(answer == (uint64_t)RUN_STEPS << 32, "the run ended");
 }
 
-static void step(size_t engine)
+static void make_steps(size_t engine, step_function *call)
 {
-    step_function *call = makers[engine].step;
     uint32_t answers = 0;
     for (uint32_t k = 0; k < STEP_CALLS; k++)
         answers |= call(&machines[engine], memories[engine], PAW_MEMORY_BYTES);
     must(answers == PAW_COMPLETED, "a step ended the program");
 }
 
-static struct series runs[PROGRAM_COUNT], steps[PROGRAM_COUNT];
+static void step(size_t engine)
+{
+    make_steps(engine, makers[engine].step);
+}
+
+static void step_by_value(size_t engine)
+{
+    make_steps(engine, makers[engine].step_by_value);
+}
+
+static struct series runs[PROGRAM_COUNT], steps[PROGRAM_COUNT], steps_by_value[PROGRAM_COUNT];
 
 static void add_contest(struct series *series, const struct contest *contest)
 {
@@ -64,10 +73,13 @@ void measure_programs(const struct effort *effort)
 {
     const struct contest all = { ENGINES, effort->run_slices, effort->run_rounds, start, run };
     const struct contest single = { MAKERS, STEP_SLICES, effort->step_rounds, start, step };
+    const struct contest by_value = { MAKERS, STEP_SLICES, effort->step_rounds, start,
+                                      step_by_value };
     for (size_t p = 0; p < PROGRAM_COUNT; p++) {
         write_program(&program, p);
         add_contest(&runs[p], &all);
         add_contest(&steps[p], &single);
+        add_contest(&steps_by_value[p], &by_value);
     }
 }
 
@@ -83,4 +95,5 @@ void print_programs(void)
     print_row("run, worst", runs, PROGRAM_COUNT, WORST);
     print_row("one step, geometric mean of all programs", steps, PROGRAM_COUNT, MEAN);
     print_row("one step, worst", steps, PROGRAM_COUNT, WORST);
+    print_row("one step, mean, beside C by value", steps_by_value, PROGRAM_COUNT, MEAN);
 }
