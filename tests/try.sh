@@ -36,7 +36,7 @@ is_like() { [ "$ended" -eq "$1" ] && wrote "$room/out" "$2" && wrote "$room/err"
 # on standard input; its exit status, standard output and standard error must be these (the latter
 # two are patterns)
 try() {
-    timeout 300 bash -c "$5" < /dev/null > "$room/out" 2> "$room/err"
+    timeout 60 bash -c "$5" < /dev/null > "$room/out" 2> "$room/err"
     ended=$?
     note "$1" is_like "$2" "$3" "$4" && return
     printf '    %s\n    status %s and not %s; it wrote\n' "$5" "$ended" "$2"
