@@ -53,7 +53,7 @@ fn print_layout(file: &[u8]) -> bool {
 }
 
 // What a block says of itself.
-fn print_block(file: &[u8], k: u8) -> bool {
+fn print_header(file: &[u8], k: u8) -> bool {
     print(b"  Block ")
         && print_number(k as u64)
         && print(b" starts with ")
@@ -64,6 +64,26 @@ fn print_block(file: &[u8], k: u8) -> bool {
         && print_field(b" halfwords of code, w ", file, k, 3)
         && print_field(b", l ", file, k, 4)
         && print(b".\n")
+}
+
+// What a block says of itself, and what that was held to, where it is the file's.
+fn print_block(file: &[u8], number: u8, k: u8) -> bool {
+    if !print_header(file, k) {
+        return false;
+    }
+    match number {
+        5 => {
+            print(b"  The file has ")
+                && print_number((file.len() / BLOCK_BYTES) as u64)
+                && print(b" blocks.\n")
+        }
+        7 => {
+            print_field(b"  Block 0 says: w ", file, 0, 3)
+                && print_field(b", l ", file, 0, 4)
+                && print(b".\n")
+        }
+        _ => true,
+    }
 }
 
 fn print_instruction(file: &[u8], a: ByteAddress) -> bool {
@@ -85,7 +105,7 @@ fn print_instruction(file: &[u8], a: ByteAddress) -> bool {
 pub(crate) fn print_place(file: &[u8], number: u8, place: Place) -> bool {
     match place {
         Place::Address(a) => print_instruction(file, a),
-        Place::Block(k) => print_block(file, k),
+        Place::Block(k) => print_block(file, number, k),
         Place::Nowhere => {
             if number == 8 {
                 print_layout(file)

@@ -15,7 +15,9 @@ pub(crate) fn print_check(number: u8) -> bool {
         10 => print(
             b"  Check 10: every load and store lies within the window, whatever runs before it.\n",
         ),
-        11 => print(b"  Check 11: LDR and STR go by a multiple of 4, whatever runs before them.\n"),
+        11 => print(
+            b"  Check 11: the base of every LDR and STR is a multiple of 4, whatever runs before it.\n",
+        ),
         12 => print(b"  Check 12: no instruction writes R15.\n"),
         13 => print(b"  Check 13: every branch goes to an instruction of the code.\n"),
         14 => print(b"  Check 14: the last instruction is HALT.\n"),
@@ -24,8 +26,8 @@ pub(crate) fn print_check(number: u8) -> bool {
 }
 
 fn print_use() -> bool {
-    print(b"  Check 6: a block has 249 halfwords of code, the last one 1 to 249, and zeros\n")
-        && print(b"  where none stands.\n")
+    print(b"  Check 6: every block but the last has 249 halfwords of code, the last 1 to 249,\n")
+        && print(b"  and behind the code stands 0.\n")
 }
 
 fn print_window() -> bool {
