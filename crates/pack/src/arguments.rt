@@ -71,17 +71,22 @@ fn read_number(i: usize) -> Number {
     parse(&text[..n])
 }
 
-// Says what is wrong with the argument of that name.
-fn refuse(name: &[u8], number: Number) {
+fn complain(name: &[u8], words: &[u8]) {
     say(b"pack: ");
     say(name);
+    say(words);
+}
+
+// Says why the argument of that name is no value.
+fn refuse(name: &[u8], number: Number) {
     match number {
-        Number::Value(_) => say(b" is a number\n"),
-        Number::NotANumber => say(
+        Number::Value(_) => (),
+        Number::NotANumber => complain(
+            name,
             b" is not a number, in decimal or in hexadecimal with 0x in front\n",
         ),
-        Number::TooLarge => say(b" is above 65535\n"),
-        Number::TooLong => say(b" is longer than 4096 characters\n"),
+        Number::TooLarge => complain(name, b" is above 65535\n"),
+        Number::TooLong => complain(name, b" is longer than 4096 characters\n"),
     }
 }
 
