@@ -1,10 +1,14 @@
 // The engineers' checklist for an image on standard input: the manual's date,
 // the blocks read, the judge's line, and how a run of the loaded program from a
-// cleared machine ends. It stops at the first line that refuses. The budget of
-// the run is the argument, 1,000,000 steps if there is none.
+// cleared machine ends. It stops at the first line that refuses, and says under it
+// in words what the check asks and what it found. The budget of the run is the
+// argument, 1,000,000 steps if there is none. A read or a write that fails is told
+// on standard error.
 mod argument;
 mod console;
+mod places;
 mod report;
+mod words;
 
 use argument::Budget;
 use libc::STDIN_FILENO;
@@ -25,18 +29,20 @@ fn go_through(budget: u32) {
     let n = io::read_full(STDIN_FILENO, &mut buffer);
     if n < MOST {
         if !has_ended() {
-            os::fail(b"standard input");
+            os::fail(b"checklist: standard input");
             return;
         }
     }
-    report::print_lines(&buffer[..n], budget);
+    if !report::print_lines(&buffer[..n], budget) {
+        os::fail(b"checklist: standard output");
+    }
 }
 
 fn main() {
-    match argument::read_budget() {
-        Budget::Steps(n) => go_through(n),
-        Budget::Bad => console::complain(
-            b"checklist: the budget is a number from 0 to 4294967295\n",
-        ),
+    let budget = argument::read_budget();
+    if let Budget::Steps(n) = budget {
+        go_through(n);
+    } else {
+        argument::refuse(budget);
     }
 }

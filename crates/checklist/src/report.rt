@@ -1,11 +1,15 @@
-// The checklist's lines.
+// The checklist's lines. Each function answers whether all was written, and
+// stops at the first write that fails.
 use super::console::print;
 use super::console::print_number;
 use super::console::print_verdict;
+use super::places::print_place;
+use super::words::print_check;
 use cpu::Machine;
 use image::Checked;
 use loader::Loaded;
 use reader::Given;
+use refusals::Refusal;
 use runner::RunOutcome;
 use verifier::Verdict;
 ghost use mathlib.Core.Path.{_≡_};
@@ -37,68 +41,68 @@ fn count_blocks(file: &[u8], checked: Checked) -> u64
     image::MOST_BLOCKS as u64
 }
 
-fn print_outcome(outcome: RunOutcome, count: u32) {
-    print(b"Run: ");
+// The line of a refusal, what its check asks, and what stands at its place.
+fn print_refusal(file: &[u8], r: Refusal) -> bool {
+    let place = r.place;
+    print_verdict(Verdict::Refused(r))
+        && print_check(r.number)
+        && print_place(file, r.number, place)
+}
+
+fn print_ending(outcome: RunOutcome) -> bool {
     match outcome {
         RunOutcome::Spent => print(b"spent "),
         RunOutcome::Halted => print(b"halt "),
         RunOutcome::Stopped(number) => {
-            print(b"stop ");
-            print_number(number as u64);
-            print(b" after ");
+            print(b"stop ") && print_number(number as u64) && print(b" after ")
         }
         RunOutcome::Refused(r) => {
-            print(b"refused ");
-            print_number(r.number as u64);
-            print(b" after ");
+            print(b"refused ") && print_number(r.number as u64) && print(b" after ")
         }
     }
-    print_number(count as u64);
-    print(b"\n");
 }
 
 // Loads the program into a cleared memory and runs it.
-fn print_run(file: &[u8], budget: u32) {
+fn print_run(file: &[u8], budget: u32) -> bool {
+    if !print(b"Run: ") {
+        return false;
+    }
     let mut memory = [0u8; 65536];
     match loader::load(file, &mut memory) {
-        Loaded::Refused(r) => {
-            print(b"Run: ");
-            print_verdict(Verdict::Refused(r));
-        }
+        Loaded::Refused(r) => print_refusal(file, r),
         Loaded::Done(_) => {
             let out = runner::run(cleared(), &mut memory, budget);
             let outcome = out.outcome;
-            print_outcome(outcome, out.count);
+            print_ending(outcome) && print_number(out.count as u64) && print(b"\n")
         }
     }
 }
 
-fn print_window(file: &[u8], budget: u32) {
-    print(b"Window: ");
+fn print_window(file: &[u8], budget: u32) -> bool {
+    if !print(b"Window: ") {
+        return false;
+    }
     let v = verifier::verify(file);
-    print_verdict(v);
-    if let Verdict::Fit(_) = v {
-        print_run(file, budget);
+    match v {
+        Verdict::Refused(r) => print_refusal(file, r),
+        Verdict::Fit(_) => print_verdict(v) && print_run(file, budget),
     }
 }
 
-fn print_blocks(file: &[u8], budget: u32) {
-    print(b"Blocks: ");
+fn print_blocks(file: &[u8], budget: u32) -> bool {
+    if !print(b"Blocks: ") {
+        return false;
+    }
     let checked = image::check(file);
     match checked {
-        Checked::Refused(r) => print_verdict(Verdict::Refused(r)),
+        Checked::Refused(r) => print_refusal(file, r),
         Checked::Valid(_) => {
-            print_number(count_blocks(file, checked));
-            print(b"\n");
-            print_window(file, budget);
+            print_number(count_blocks(file, checked)) && print(b"\n") && print_window(file, budget)
         }
     }
 }
 
 // All lines, down to the first that refuses.
-pub(crate) fn print_lines(file: &[u8], budget: u32) {
-    print(b"Title page: ");
-    print(&isa::MANUAL_DATE);
-    print(b"\n");
-    print_blocks(file, budget);
+pub(crate) fn print_lines(file: &[u8], budget: u32) -> bool {
+    print(b"Title page: ") && print(&isa::MANUAL_DATE) && print(b"\n") && print_blocks(file, budget)
 }

@@ -1,7 +1,7 @@
 // Judges an image on standard input: one line, `fit` with the code's length in
 // bytes and the window's start and length, or `refused` with the number of the
-// first check that failed and its place. A read that fails is told on standard
-// error, and nothing is judged.
+// first check that failed and its place. A read or a write that fails is told on
+// standard error; after a read that fails nothing is judged.
 use libc::STDIN_FILENO;
 use libc::STDOUT_FILENO;
 
@@ -20,7 +20,9 @@ fn judge(file: &[u8]) {
     let line = lines::verdict_line(verifier::verify(file));
     let bytes = line.bytes;
     let n = line.length;
-    io::write_all(STDOUT_FILENO, &bytes[..n]);
+    if !io::write_all(STDOUT_FILENO, &bytes[..n]) {
+        os::fail(b"judge: standard output");
+    }
 }
 
 fn main() {
@@ -28,7 +30,7 @@ fn main() {
     let n = io::read_full(STDIN_FILENO, &mut buffer);
     if n < MOST {
         if !has_ended() {
-            os::fail(b"standard input");
+            os::fail(b"judge: standard input");
             return;
         }
     }

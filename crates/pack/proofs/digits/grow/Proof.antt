@@ -1,0 +1,30 @@
+-- Each arm is one of the definition's.
+use borrow.Author.Needs.{needs}
+use borrow.Author.Tests.{lt-ltb, le-ltb}
+use Rattle.pack.specs.Digits.{grownBy}
+use Rattle.pack.proofs.digits.grow.Statement.{statement}
+use Rattle.pack.proofs.digits.grow.Tie as tie
+
+returns : tie.Need-returns
+unfolding grownBy
+returns c = simp (lt-ltb _ _ (c .if1 .taken))
+
+returns-2 : tie.Need-returns-2
+unfolding grownBy
+returns-2 c = simp (le-ltb _ _ (c .before .if1 .left), c .if2 .taken)
+
+returns-3 : tie.Need-returns-3
+unfolding grownBy
+returns-3 c = simp (le-ltb _ _ (c .before .if1 .left), c .if2 .left)
+
+pub grow-spec : {M : Type 1} → statement M
+grow-spec =
+    tie.close
+    (tie.spec
+    returns
+    (λ c. search needs)
+    (λ c. search needs)
+    (λ c. search needs)
+    (λ c. search needs)
+    returns-2
+    returns-3)

@@ -1,0 +1,44 @@
+// Digits, and what they write.
+ghost use mathlib.Core.Path.{_≡_};
+ghost use Prim.Native.Nat.{_<_};
+ghost use Rattle.pack.specs.Digits.{noDigit, digitOf, withDigit, grownBy};
+
+// What a byte that is no digit gives: more than any digit.
+pub(crate) const NO_DIGIT: u8 = 16;
+
+// The largest halfword.
+pub(crate) const LARGEST: u32 = 65535;
+
+// The value of a hexadecimal digit, of either case.
+pub(crate) fn digit_of(b: u8) -> u8
+    ensures { λ r. ⌜ r ≡ digitOf b ⌝ }
+{
+    match b {
+        b'0'..=b'9' => b - b'0',
+        b'A'..=b'F' => b - b'A' + 10,
+        b'a'..=b'f' => b - b'a' + 10,
+        _ => NO_DIGIT,
+    }
+}
+
+// A halfword with one hexadecimal digit more.
+pub(crate) fn with_digit(h: u16, d: u8) -> u16
+    requires { ⌜ d < noDigit ⌝ }
+    ensures { λ r. ⌜ r ≡ withDigit h d ⌝ }
+{
+    h % 4096 * 16 + d as u16
+}
+
+// A number with one digit more; past the largest halfword it stays past it.
+pub(crate) fn grow(hex: bool, n: u32, d: u8) -> u32
+    ensures { λ r. ⌜ r ≡ grownBy hex n d ⌝ }
+{
+    if LARGEST < n {
+        return n;
+    }
+    if hex {
+        n * 16 + d as u32
+    } else {
+        n * 10 + d as u32
+    }
+}
