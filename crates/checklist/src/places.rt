@@ -26,9 +26,9 @@ fn print_field(words: &[u8], file: &[u8], k: u8, j: u8) -> bool {
 
 fn print_length(file: &[u8]) -> bool {
     if file.len() > MOST_BYTES {
-        return print(b"  It has more than 32768 bytes.\n");
+        return print(b"  Its length in bytes is above 32768.\n");
     }
-    print(b"  It has ") && print_number(file.len() as u64) && print(b" bytes.\n")
+    print(b"  Its length in bytes is ") && print_number(file.len() as u64) && print(b".\n")
 }
 
 // The length in bytes of the code of a file whose blocks are in order.
@@ -73,9 +73,9 @@ fn print_block(file: &[u8], number: u8, k: u8) -> bool {
     }
     match number {
         5 => {
-            print(b"  The file has ")
+            print(b"  The number of blocks in the file is ")
                 && print_number((file.len() / BLOCK_BYTES) as u64)
-                && print(b" blocks.\n")
+                && print(b".\n")
         }
         7 => {
             print_field(b"  Block 0 says: w ", file, 0, 3)

@@ -13,10 +13,10 @@ pub(crate) fn print_check(number: u8) -> bool {
         8 => print_window(),
         9 => print(b"  Check 9: every halfword of the code is an instruction.\n"),
         10 => print(
-            b"  Check 10: every load and store lies within the window, whatever runs before it.\n",
+            b"  Check 10: every load and store lies within the window, as far as the judge can tell.\n",
         ),
         11 => print(
-            b"  Check 11: the base of every LDR and STR is a multiple of 4, whatever runs before it.\n",
+            b"  Check 11: 4 divides the base of every LDR and STR, as far as the judge can tell.\n",
         ),
         12 => print(b"  Check 12: no instruction writes R15.\n"),
         13 => print(b"  Check 13: every branch goes to an instruction of the code.\n"),
@@ -31,6 +31,6 @@ fn print_use() -> bool {
 }
 
 fn print_window() -> bool {
-    print(b"  Check 8: w and l are multiples of 4, l is at least 4, w is at least the code's\n")
-        && print(b"  length in bytes, and w + l is at most 65536.\n")
+    print(b"  Check 8: the window lies behind the code and within memory, is not empty, and 4\n")
+        && print(b"  divides its start w and its length l.\n")
 }

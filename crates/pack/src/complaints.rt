@@ -47,8 +47,8 @@ fn say_code_length(n: usize) {
 
 fn say_window(n: usize, w: u16, l: u16) {
     let end = byte_address(InstructionIndex((n % 65536) as u16));
-    say(b"  Check 8: w and l are multiples of 4, l is at least 4, w is at least the code's\n");
-    say(b"  length in bytes, and w + l is at most 65536.\n");
+    say(b"  Check 8: the window lies behind the code and within memory, is not empty, and 4\n");
+    say(b"  divides its start w and its length l.\n");
     say(b"  The code has ");
     say_number(end.0 as u64);
     say(b" bytes, w is ");
