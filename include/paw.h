@@ -143,13 +143,14 @@ enum paw_kind {
     PAW_KIND_NEG = 7,       /* rs, rd */
     PAW_KIND_CMP = 8,       /* rs, rd */
     PAW_KIND_ADD_HIGH = 9,  /* rs, rd, each 0 to 15 */
-    PAW_KIND_CMP_HIGH = 10, /* rs, rd, each 0 to 15 and one of them at least 8 */
+    PAW_KIND_CMP_HIGH = 10, /* rs, rd, each 0 to 15, at least one of them 8 or more */
     PAW_KIND_MOV_HIGH = 11, /* rs, rd, each 0 to 15 */
     PAW_KIND_STR = 12,      /* offset, rb, rd; the offset is 0 to 31 and counts 4 bytes each */
     PAW_KIND_LDR = 13,      /* offset, rb, rd; as STR */
     PAW_KIND_STRB = 14,     /* offset, rb, rd; the offset is 0 to 31 and counts bytes */
     PAW_KIND_LDRB = 15,     /* offset, rb, rd; as STRB */
-    PAW_KIND_ADD_PC = 16,   /* rd, immediate, which counts 4 bytes each */
+    PAW_KIND_ADD_PC = 16,   /* rd, immediate, which counts 4 bytes each from the instruction's own
+                               address, rounded down to a multiple of 4 */
     PAW_KIND_BRANCH = 17,   /* condition, offset, a signed byte that counts instructions, 2 bytes
                                each, from the branch itself */
     PAW_KIND_HALT = 18      /* no fields */

@@ -1,8 +1,8 @@
 // The window, as the program's arguments give it.
 use super::console::say;
-use super::digits::LARGEST;
-use super::digits::digit_of;
-use super::digits::grow;
+use digits::LARGEST;
+use digits::digit_of;
+use digits::grow;
 
 // What the arguments come to: the window's start and length in bytes, or
 // nothing, when standard error has been told why.

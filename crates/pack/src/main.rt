@@ -5,7 +5,6 @@
 mod arguments;
 mod complaints;
 mod console;
-mod digits;
 mod input;
 mod maker;
 mod scanner;

@@ -1,7 +1,7 @@
 // Halfwords out of text, byte by byte.
-use super::digits::NO_DIGIT;
-use super::digits::digit_of;
-use super::digits::with_digit;
+use digits::NO_DIGIT;
+use digits::digit_of;
+use digits::with_digit;
 ghost use mathlib.Core.Path.{_≡_};
 ghost use Rattle.pack.specs.Scanning.{Kept, KeptIn};
 

@@ -88,7 +88,7 @@ pub enum Instruction {
         /// The first operand, and where the result goes.
         rd: u8,
     },
-    /// CMP of two registers, each 0 to 15 and one of them at least 8.
+    /// CMP of two registers, each 0 to 15, at least one of them 8 or more.
     CmpHigh {
         /// What is subtracted.
         rs: u8,

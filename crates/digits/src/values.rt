@@ -1,16 +1,15 @@
-// Digits, and what they write.
+// What digits write.
 ghost use mathlib.Core.Path.{_≡_};
-ghost use Prim.Native.Nat.{_<_};
-ghost use Rattle.pack.specs.Digits.{noDigit, digitOf, withDigit, grownBy};
+ghost use Rattle.digits.specs.Digits.{digitOf, withDigit, grownBy};
 
 // What a byte that is no digit gives: more than any digit.
-pub(crate) const NO_DIGIT: u8 = 16;
+pub const NO_DIGIT: u8 = 16;
 
 // The largest halfword.
-pub(crate) const LARGEST: u32 = 65535;
+pub const LARGEST: u32 = 65535;
 
 // The value of a hexadecimal digit, of either case.
-pub(crate) fn digit_of(b: u8) -> u8
+pub fn digit_of(b: u8) -> u8
     ensures { λ r. ⌜ r ≡ digitOf b ⌝ }
 {
     match b {
@@ -22,15 +21,14 @@ pub(crate) fn digit_of(b: u8) -> u8
 }
 
 // A halfword with one hexadecimal digit more.
-pub(crate) fn with_digit(h: u16, d: u8) -> u16
-    requires { ⌜ d < noDigit ⌝ }
+pub fn with_digit(h: u16, d: u8) -> u16
     ensures { λ r. ⌜ r ≡ withDigit h d ⌝ }
 {
-    h % 4096 * 16 + d as u16
+    h % 4096 * 16 + (d % 16) as u16
 }
 
 // A number with one digit more; past the largest halfword it stays past it.
-pub(crate) fn grow(hex: bool, n: u32, d: u8) -> u32
+pub fn grow(hex: bool, n: u32, d: u8) -> u32
     ensures { λ r. ⌜ r ≡ grownBy hex n d ⌝ }
 {
     if LARGEST < n {

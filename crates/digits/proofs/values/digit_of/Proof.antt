@@ -1,9 +1,9 @@
 -- Each range of bytes has its own law.
 use native.Mathlib.Omega.{arith}
 use borrow.Author.Needs.{needs}
-use Rattle.pack.proofs.Values.{decimal, upper, lower, below, after-decimal, after-upper, after-lower}
-use Rattle.pack.proofs.digits.digit_of.Statement.{statement}
-use Rattle.pack.proofs.digits.digit_of.Tie as tie
+use Rattle.digits.proofs.Ranges.{decimal, upper, lower, below, after-decimal, after-upper, after-lower}
+use Rattle.digits.proofs.values.digit_of.Statement.{statement}
+use Rattle.digits.proofs.values.digit_of.Tie as tie
 
 pub digit-of-spec : {M : Type 1} → statement M
 digit-of-spec =

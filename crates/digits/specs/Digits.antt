@@ -16,7 +16,7 @@ digitOf b =
 
 -- a halfword with one hexadecimal digit more: its last four count
 abbrev pub withDigit : ℕ → ℕ → ℕ
-withDigit h d = h % 4096 * 16 + d
+withDigit h d = h % 4096 * 16 + d % 16
 
 -- a number with one digit more, hexadecimal or decimal; past the largest halfword it stays as it is
 unfoldable pub grownBy : Bool → ℕ → ℕ → ℕ

@@ -3,7 +3,7 @@ use mathlib.Core.Path.{_≡_}
 use Prim.Native.Nat.{ℕ, _+_, _-_, _≤_, _<_}
 use native.Mathlib.Omega.{arith}
 use borrow.Author.Tests.{le-leb, lt-leb}
-use Rattle.pack.specs.Digits.{digitOf, noDigit}
+use Rattle.digits.specs.Digits.{digitOf, noDigit}
 
 module _ (b : ℕ) where
   pub decimal : 48 ≤ b → b ≤ 57 → b - 48 ≡ digitOf b

@@ -1,9 +1,9 @@
 -- Each arm is one of the definition's.
 use borrow.Author.Needs.{needs}
 use borrow.Author.Tests.{lt-ltb, le-ltb}
-use Rattle.pack.specs.Digits.{grownBy}
-use Rattle.pack.proofs.digits.grow.Statement.{statement}
-use Rattle.pack.proofs.digits.grow.Tie as tie
+use Rattle.digits.specs.Digits.{grownBy}
+use Rattle.digits.proofs.values.grow.Statement.{statement}
+use Rattle.digits.proofs.values.grow.Tie as tie
 
 returns : tie.Need-returns
 unfolding grownBy
