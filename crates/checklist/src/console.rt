@@ -1,5 +1,6 @@
 // Words and numbers on standard output, and complaints on standard error. What
 // writes to standard output answers whether that went well.
+use digits::last_digit;
 use libc::STDERR_FILENO;
 use libc::STDOUT_FILENO;
 use verifier::Verdict;
@@ -12,24 +13,15 @@ pub(crate) fn print_number(n: u64) -> bool {
     io::print_decimal(STDOUT_FILENO, n)
 }
 
-fn glyph(n: u16) -> u8 {
-    let digit = (n % 16) as u8;
-    if digit < 10 {
-        b'0' + digit
-    } else {
-        b'A' + digit - 10
-    }
-}
-
 // A halfword in hexadecimal.
 pub(crate) fn print_halfword(h: u16) -> bool {
     let text = [
         b'0',
         b'x',
-        glyph(h / 4096),
-        glyph(h / 256),
-        glyph(h / 16),
-        glyph(h),
+        last_digit(h / 4096),
+        last_digit(h / 256),
+        last_digit(h / 16),
+        last_digit(h),
     ];
     print(&text)
 }

@@ -1,9 +1,9 @@
 -- The value of a byte by the range that it lies in.
 use mathlib.Core.Path.{_≡_}
-use Prim.Native.Nat.{ℕ, _+_, _-_, _≤_, _<_}
+use Prim.Native.Nat.{ℕ, _+_, _-_, _%_, _≤_, _<_}
 use native.Mathlib.Omega.{arith}
-use borrow.Author.Tests.{le-leb, lt-leb}
-use Rattle.digits.specs.Digits.{digitOf, noDigit}
+use borrow.Author.Tests.{le-leb, lt-leb, lt-ltb, le-ltb}
+use Rattle.digits.specs.Digits.{digitOf, lastDigit, noDigit}
 
 module _ (b : ℕ) where
   pub decimal : 48 ≤ b → b ≤ 57 → b - 48 ≡ digitOf b
@@ -39,3 +39,13 @@ module _ (b : ℕ) where
   after-lower h =
       simp
       (le-leb 48 b (omega arith), lt-leb b 57 (omega arith), le-leb 65 b (omega arith), lt-leb b 70 (omega arith), le-leb 97 b (omega arith), lt-leb b 102 h)
+
+-- A digit's text by its value.
+module _ (h : ℕ) where
+  pub figure : h % 16 < 10 → 48 + h % 16 ≡ lastDigit h
+  unfolding lastDigit
+  figure low = simp (lt-ltb (h % 16) 10 low)
+
+  pub letter : 10 ≤ h % 16 → 65 + (h % 16 - 10) ≡ lastDigit h
+  unfolding lastDigit
+  letter high = simp (le-ltb (h % 16) 10 high) (omega arith)

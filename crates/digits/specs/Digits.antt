@@ -14,6 +14,10 @@ digitOf b =
     (b - 48)
     (cond (leb 65 b && leb b 70) (b - 55) (cond (leb 97 b && leb b 102) (b - 87) noDigit))
 
+-- the last hexadecimal digit of a halfword, in capitals
+unfoldable pub lastDigit : ℕ → ℕ
+lastDigit h = cond (ltb (h % 16) 10) (48 + h % 16) (55 + h % 16)
+
 -- a halfword with one hexadecimal digit more: its last four count
 abbrev pub withDigit : ℕ → ℕ → ℕ
 withDigit h d = h % 4096 * 16 + d % 16

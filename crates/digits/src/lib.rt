@@ -5,4 +5,5 @@ pub use values::LARGEST;
 pub use values::NO_DIGIT;
 pub use values::digit_of;
 pub use values::grow;
+pub use values::last_digit;
 pub use values::with_digit;

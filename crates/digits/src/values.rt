@@ -1,6 +1,6 @@
-// What digits write.
+// What digits write, and how they are written.
 ghost use mathlib.Core.Path.{_≡_};
-ghost use Rattle.digits.specs.Digits.{digitOf, withDigit, grownBy};
+ghost use Rattle.digits.specs.Digits.{digitOf, lastDigit, withDigit, grownBy};
 
 // What a byte that is no digit gives: more than any digit.
 pub const NO_DIGIT: u8 = 16;
@@ -18,6 +18,14 @@ pub fn digit_of(b: u8) -> u8
         b'a'..=b'f' => b - b'a' + 10,
         _ => NO_DIGIT,
     }
+}
+
+// The last hexadecimal digit of a halfword, in capitals.
+pub fn last_digit(h: u16) -> u8
+    ensures { λ r. ⌜ r ≡ lastDigit h ⌝ }
+{
+    let d = (h % 16) as u8;
+    if d < 10 { b'0' + d } else { b'A' + (d - 10) }
 }
 
 // A halfword with one hexadecimal digit more.
