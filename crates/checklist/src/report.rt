@@ -62,20 +62,28 @@ fn print_ending(outcome: RunOutcome) -> bool {
     }
 }
 
-// Loads the program into a cleared memory and runs it.
+fn print_ran(outcome: RunOutcome, count: u32) -> bool {
+    print_ending(outcome) && print_number(count as u64) && print(b"\n")
+}
+
+// Loads the program into a memory and runs it.
+fn print_loaded(file: &[u8], memory: &mut [u8], budget: u32) -> bool {
+    match loader::load(file, memory) {
+        Loaded::Refused(r) => print_refusal(file, r),
+        Loaded::Done(_) => {
+            let out = runner::run(cleared(), memory, budget);
+            let outcome = out.outcome;
+            print_ran(outcome, out.count)
+        }
+    }
+}
+
 fn print_run(file: &[u8], budget: u32) -> bool {
     if !print(b"Run: ") {
         return false;
     }
     let mut memory = [0u8; 65536];
-    match loader::load(file, &mut memory) {
-        Loaded::Refused(r) => print_refusal(file, r),
-        Loaded::Done(_) => {
-            let out = runner::run(cleared(), &mut memory, budget);
-            let outcome = out.outcome;
-            print_ending(outcome) && print_number(out.count as u64) && print(b"\n")
-        }
-    }
+    print_loaded(file, &mut memory, budget)
 }
 
 fn print_window(file: &[u8], budget: u32) -> bool {
