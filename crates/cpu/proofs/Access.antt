@@ -6,14 +6,15 @@ use lib.ListN.{getD, set}
 use borrow.Author.Tests.{eq-eqb, ne-eqb}
 use Rattle.units.specs.Address.{wrap}
 use Rattle.units.specs.Bytes.{halfwordAt, withByte, withHalfword}
-use Rattle.cpu.specs.declared.held.Control.{Control}
+use Rattle.alu.specs.declared.control.Control.{Control}
 use Rattle.cpu.specs.declared.held.Executed.{Executed}
 use Rattle.cpu.specs.declared.machine.Machine.{Machine}
 use Rattle.cpu.specs.declared.outcome.Outcome.{Outcome}
 use Rattle.cpu.specs.declared.outcome.Outcome.the-variants.{Completed, Stopped}
 use Rattle.cpu.specs.Machine.{machine, advanced, written}
 use Rattle.cpu.specs.Step.{stepResult, ldrOf, strOf, strbOf}
-use Rattle.cpu.specs.Held.{flagsIn, held, moved, Flagged, Whole, Holds, Leads}
+use Rattle.alu.specs.Control.{flagsIn, Flagged}
+use Rattle.cpu.specs.Held.{held, moved, Whole, Holds, Leads}
 use Rattle.cpu.proofs.Ends.{low-is, advance-holds}
 
 -- a control, and an ending beside it

@@ -6,10 +6,12 @@ use mathlib.Core.Path.{_≡_, sym, ap, _∙_}
 use lib.ListN.{getD, set, length-set}
 use lib.Seq.{getD-set-same, getD-set-other, set-set, set-comm}
 use Rattle.units.specs.Address.{wrap}
-use Rattle.cpu.specs.declared.held.Control.{Control}
+use Rattle.alu.specs.declared.control.Control.{Control}
 use Rattle.cpu.specs.declared.machine.Machine.{Machine}
-use Rattle.cpu.specs.Machine.{Flags, machine, advanced, written}
-use Rattle.cpu.specs.Held.{flagsIn, moved, Flagged, Whole, Holds}
+use Rattle.alu.specs.Flags.{Flags}
+use Rattle.cpu.specs.Machine.{machine, advanced, written}
+use Rattle.alu.specs.Control.{flagsIn, Flagged}
+use Rattle.cpu.specs.Held.{moved, Whole, Holds}
 
 module _ (regs : List ℕ) (pc : ℕ) (whole : Whole regs) where
   -- the PC is read back

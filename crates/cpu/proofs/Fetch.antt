@@ -5,7 +5,7 @@ use mathlib.Core.Path.{_≡_}
 use borrow.Author.Tests.{eq-eqb, ne-eqb}
 use Rattle.units.specs.Bytes.{halfwordAt}
 use Rattle.isa.specs.Decode.{decodeOf}
-use Rattle.cpu.specs.declared.held.Control.{Control}
+use Rattle.alu.specs.declared.control.Control.{Control}
 use Rattle.cpu.specs.declared.held.Executed.{Executed}
 use Rattle.cpu.specs.declared.outcome.Outcome.the-variants.{Stopped}
 use Rattle.cpu.specs.Step.{executeDecoded, fetched, fetchAndExecute}

@@ -12,13 +12,14 @@ use Rattle.isa.specs.declared.decoder.Decoded.{Decoded}
 use Rattle.isa.specs.declared.decoder.Decoded.the-variants.{Defined, Undefined}
 use Rattle.isa.specs.declared.instruction.Instruction.{Instruction}
 use Rattle.isa.specs.declared.instruction.Instruction.the-variants.{Branch}
-use Rattle.cpu.specs.declared.held.Control.{Control}
+use Rattle.alu.specs.declared.control.Control.{Control}
 use Rattle.cpu.specs.declared.held.Executed.{Executed}
 use Rattle.cpu.specs.declared.machine.Machine.{Machine}
 use Rattle.cpu.specs.declared.outcome.Outcome.the-variants.{Completed, Halted, Stopped}
-use Rattle.cpu.specs.Alu.{conditionOf}
+use Rattle.alu.specs.Alu.{conditionOf}
 use Rattle.cpu.specs.Step.{stepResult, branchOf as branchStep, executeOf, executeDecoded}
-use Rattle.cpu.specs.Held.{flagsIn, held, branched, Whole, Holds, Leads, Beside, branchElse}
+use Rattle.alu.specs.Control.{flagsIn}
+use Rattle.cpu.specs.Held.{held, branched, Whole, Holds, Leads, Beside, branchElse}
 use Rattle.cpu.proofs.Ends.{pc-is, moved-on}
 use Rattle.cpu.proofs.Access.{Gave, leads, stays}
 use Rattle.cpu.proofs.Dispatch.{is-branch}

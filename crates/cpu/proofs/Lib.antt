@@ -1,6 +1,4 @@
 pub mod Ends
-pub mod Sums
-pub mod Turned
 pub mod Access
 pub mod Formats
 pub mod Dispatch

@@ -1,48 +1,26 @@
 -- How the code holds a machine while it works: registers in an array, and by value beside it the PC and the flags.
 -- Only contracts of functions that are no entry points speak of it.
-use mathlib.Core.Bool.{Bool, cond, _&&_}
+use mathlib.Core.Bool.{Bool, cond}
 use mathlib.Core.List.{List}
 use mathlib.Core.Path.{_≡_}
-use Prim.Native.Nat.{ℕ, _+_, _%_}
-use lib.Dec.{eqb, leb}
+use Prim.Native.Nat.{ℕ, _+_}
+use lib.Dec.{eqb}
 use lib.ListN.{length, set}
 use Rattle.units.specs.Address.{wrap, branchTargetOf}
 use Rattle.units.specs.Field.{field}
 use Rattle.isa.specs.Decode.{only, branchOf, decodeOf}
 use Rattle.isa.specs.declared.decoder.Decoded.{Decoded}
 use Rattle.isa.specs.declared.decoder.Decoded.the-variants.{Undefined}
+use Rattle.alu.specs.declared.control.Control.{Control}
+use Rattle.alu.specs.Control.{flagsIn}
 use Rattle.cpu.specs.declared.machine.Machine.{Machine}
-use Rattle.cpu.specs.declared.held.Control.{Control}
 use Rattle.cpu.specs.declared.held.Executed.{Executed}
-use Rattle.cpu.specs.declared.status.Status.{Status}
-use Rattle.cpu.specs.Machine.{Flags, machine}
-use Rattle.cpu.specs.Alu.{negative, signsDiffer}
+use Rattle.cpu.specs.Machine.{machine}
 use Rattle.cpu.specs.Step.{StepResult, stepResult, executeDecoded}
-
--- N and Z speak of the result that is held, C and V of the sum: where it has more than 16 bits, and where its low 16 have a
--- sign that neither operand has
-abbrev pub flagsIn : Control → Flags
-flagsIn k =
-    let low = k .sum % 65536 in
-    record {
-      n = negative (k .result);
-      z = eqb (k .result % 65536) 0;
-      c = leb 65536 (k .sum);
-      v = signsDiffer (k .a) low && signsDiffer (k .b) low;
-    }
-
--- and the flags by themselves
-abbrev pub flagsOf : Status → Flags
-flagsOf s = record { n = s .n; z = s .z; c = s .c; v = s .v }
 
 -- the same flags at another PC
 abbrev pub moved : ℕ → Control → Control
 moved pc k = record { pc = pc; result = k .result; a = k .a; b = k .b; sum = k .sum }
-
--- other flags at the same PC
-pub record Flagged (g k : Control) (f : Flags) : Type 0 where
-  pub pc : g .pc ≡ k .pc
-  pub flags : flagsIn g ≡ f
 
 -- the machine that is held; R15 is the PC beside the array
 abbrev pub held : List ℕ → Control → Machine

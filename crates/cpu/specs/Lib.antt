@@ -1,4 +1,3 @@
 pub mod Machine
-pub mod Alu
 pub mod Step
 pub mod Held

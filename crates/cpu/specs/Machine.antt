@@ -1,9 +1,9 @@
 -- The machine ("One step"): sixteen 16-bit registers and the flags N, Z, C, V. R15 is the PC.
-use mathlib.Core.Bool.{Bool}
 use mathlib.Core.List.{List}
 use Prim.Native.Nat.{ℕ, _+_}
 use lib.ListN.{getD, set}
 use Rattle.units.specs.Address.{wrap}
+use Rattle.alu.specs.Flags.{Flags}
 use Rattle.cpu.specs.declared.machine.Machine.{Machine}
 
 -- what a register holds; in R15 an instruction finds its own address
@@ -13,13 +13,7 @@ reg m i = getD (m .regs) i 0
 abbrev pub pc : Machine → ℕ
 pc m = reg m 15
 
--- the flags by themselves
-pub record Flags : Type 0 where
-  pub n : Bool
-  pub z : Bool
-  pub c : Bool
-  pub v : Bool
-
+-- its flags
 abbrev pub flags : Machine → Flags
 flags m = record { n = m .n; z = m .z; c = m .c; v = m .v }
 

@@ -17,7 +17,7 @@ use Rattle.cpu.specs.declared.machine.Machine.{Machine}
 use Rattle.cpu.specs.declared.outcome.Outcome.{Outcome}
 use Rattle.cpu.specs.declared.outcome.Outcome.the-variants.{Completed, Halted, Stopped, Refused}
 use Rattle.cpu.specs.Machine.{reg, pc, flags, machine, advanced, written}
-use Rattle.cpu.specs.Alu.{resultFlags, sumOf, sumFlags, differenceOf, differenceFlags, shiftOf, shiftFlags, conditionOf}
+use Rattle.alu.specs.Alu.{resultFlags, sumOf, sumFlags, differenceOf, differenceFlags, shiftOf, shiftFlags, conditionOf}
 
 -- a machine and the memory beside it
 pub record State : Type 0 where

@@ -4,14 +4,6 @@
 // instructions themselves. For the same reason few tests are on the way: ten
 // bits tell an operation on registers, five all else but a branch, and a
 // branch's upper byte its condition.
-use super::conditions::is_carry;
-use super::conditions::is_greater;
-use super::conditions::is_higher;
-use super::conditions::is_less;
-use super::conditions::is_negative;
-use super::conditions::is_overflow;
-use super::conditions::is_zero;
-use super::held::Control;
 use super::held::Executed;
 use super::held::completed;
 use super::held::stopped;
@@ -19,6 +11,14 @@ use super::instructions;
 use super::outcome::ODD_PC;
 use super::outcome::Outcome;
 use super::outcome::UNDEFINED;
+use alu::Control;
+use alu::is_carry;
+use alu::is_greater;
+use alu::is_higher;
+use alu::is_less;
+use alu::is_negative;
+use alu::is_overflow;
+use alu::is_zero;
 use units::bits;
 use units::halfword_at;
 ghost use mathlib.Core.Path.{_≡_};

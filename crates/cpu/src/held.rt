@@ -2,25 +2,14 @@
 // PC and the flags by value beside it. What the array has at 15 doesn't count;
 // an instruction that may name R15 first puts the PC there.
 use super::outcome::Outcome;
+use alu::Control;
 ghost use mathlib.Core.Path.{_≡_};
 ghost use Prim.Native.Nat.{_+_, _<_};
 ghost use lib.ListN.{set};
 ghost use Rattle.units.specs.Address.{wrap};
 ghost use Rattle.cpu.specs.Machine.{machine, written};
-ghost use Rattle.cpu.specs.Held.{flagsIn, moved, Whole, Holds};
-
-// The PC and the flags, these as what they speak of, so that an instruction
-// which sets them has hardly any work with them and only a branch looks closer.
-// N is set where the result is 0x8000 or more, Z where its low 16 bits are 0; C
-// where the sum has more than 16 bits, V where its low 16 have a sign that
-// neither of its operands a and b has.
-pub struct Control {
-    pub pc: u16,
-    pub result: u32,
-    pub a: u16,
-    pub b: u16,
-    pub sum: u32,
-}
+ghost use Rattle.alu.specs.Control.{flagsIn};
+ghost use Rattle.cpu.specs.Held.{moved, Whole, Holds};
 
 // What an instruction hands on, and how it ended.
 pub struct Executed {

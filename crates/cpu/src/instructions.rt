@@ -1,15 +1,6 @@
 // One function an instruction, in the manual's order and named after its page. It
 // takes its fields out of the halfword itself. ADD and MOV of two of R0 to R7
 // have functions of their own: they have nothing to do with the PC.
-use super::alu::compare;
-use super::alu::difference;
-use super::alu::difference_flags;
-use super::alu::result_flags;
-use super::alu::shift;
-use super::alu::shift_flags;
-use super::alu::sum;
-use super::alu::sum_flags;
-use super::held::Control;
 use super::held::Executed;
 use super::held::advance;
 use super::held::completed;
@@ -20,6 +11,15 @@ use super::held::write_low;
 use super::memory::load_byte;
 use super::memory::store_byte;
 use super::outcome::MISALIGNED;
+use alu::Control;
+use alu::compare;
+use alu::difference;
+use alu::difference_flags;
+use alu::result_flags;
+use alu::shift;
+use alu::shift_flags;
+use alu::sum;
+use alu::sum_flags;
 use units::ByteAddress;
 use units::bits;
 use units::halfword_at;

@@ -1,20 +1,13 @@
 // The PAW processor: its machine, and what each instruction does to it. Memory is
 // the caller's, 65,536 bytes; code may read, write and execute any of them.
-mod alu;
-mod conditions;
 mod executor;
 mod held;
 mod instructions;
 mod machine;
 mod memory;
 mod outcome;
-mod status;
 
 pub use executor::fetch_and_execute;
-pub use held::Control;
 pub use held::Executed;
 pub use machine::Machine;
 pub use outcome::Outcome;
-pub use status::Status;
-pub use status::control_of;
-pub use status::status_in;

@@ -4,7 +4,7 @@ use mathlib.Core.Path.{_≡_, refl}
 use Prim.Native.Nat.{ℕ, _+_, _<_, _≤_}
 use native.Mathlib.Omega.{arith}
 use borrow.Author.Tests.{leb-true, leb-false, le-leb, lt-leb, lt-ltb, le-ltb}
-use Rattle.cpu.specs.Alu.{negative, sumOf, sumFlags, differenceOf, differenceFlags}
+use Rattle.alu.specs.Alu.{negative, sumOf, sumFlags, differenceOf, differenceFlags}
 use Rattle.cpu_laws.specs.Overflow.{raised, fits, SumOverflows, DifferenceOverflows}
 
 fits-so : (p q : ℕ) → q ≤ p → p < q + 65536 → fits p q ≡ true

@@ -18,7 +18,7 @@ use Rattle.isa.specs.declared.instruction.Instruction.the-variants.{MovImm, Cmp
 use Rattle.cpu.specs.declared.machine.Machine.{Machine}
 use Rattle.cpu.specs.declared.outcome.Outcome.the-variants.{Refused}
 use Rattle.cpu.specs.Machine.{reg, pc, flags, machine, advanced, written}
-use Rattle.cpu.specs.Alu.{negative, shiftedOf, shiftOf, conditionOf}
+use Rattle.alu.specs.Alu.{negative, shiftedOf, shiftOf, conditionOf}
 use Rattle.cpu.specs.Step.{State, StepResult, stepResult, completed, stopped, effectiveAddress, aligned, addHighOf, addPcOf, andOf, asrOf, branchOf, cmpImmOf, cmpOf, cmpHighOf, eorOf, ldrOf, ldrbOf, movImmOf, movHighOf, negOf, strOf, strbOf, tstOf, executeOf, executeDecoded, fetched, fetchAndExecute, stepOf}
 use Rattle.runner.specs.Run.{state, nextState, stateAfter}
 use Rattle.isa_laws.proofs.Narrow.{Narrow, decoded-narrow}

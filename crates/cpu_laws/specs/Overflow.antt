@@ -5,7 +5,7 @@ use mathlib.Core.Path.{_≡_}
 use Prim.Native.Nat.{ℕ, _+_, _<_}
 use lib.Dec.{leb, ltb}
 use Rattle.units.specs.Address.{wrap}
-use Rattle.cpu.specs.Alu.{sumFlags, differenceFlags}
+use Rattle.alu.specs.Alu.{sumFlags, differenceFlags}
 
 -- the signed number x, plus 32,768
 abbrev pub raised : ℕ → ℕ

@@ -12,7 +12,7 @@ use denote.Enum.Declared.{tagOf}
 use Rattle.units.specs.Address.{memoryBytes}
 use Rattle.refusals.specs.Refusal.{refusal}
 use Rattle.refusals.specs.declared.refusal.Refusal.{Refusal}
-use Rattle.cpu.specs.declared.held.Control.{Control}
+use Rattle.alu.specs.declared.control.Control.{Control}
 use Rattle.cpu.specs.declared.held.Executed.{Executed}
 use Rattle.cpu.specs.declared.machine.Machine.{Machine}
 use Rattle.runner.specs.declared.runs.RunOutcome.{RunOutcome}
@@ -21,9 +21,11 @@ use Rattle.cpu.specs.declared.outcome.Outcome.{Outcome}
 use Rattle.cpu.specs.declared.outcome.Outcome.the-variants.{Completed, Halted, Stopped, Refused}
 use Rattle.cpu.specs.Step.{State, StepResult, stepResult, fetchAndExecute, stepOf}
 use Rattle.runner.specs.Run.{RunResult, runResult, state, goOn, runFrom, runOf}
-use Rattle.cpu.specs.declared.status.Status.{Status}
-use Rattle.cpu.specs.Machine.{Flags, machine}
-use Rattle.cpu.specs.Held.{flagsIn, flagsOf, held}
+use Rattle.alu.specs.declared.status.Status.{Status}
+use Rattle.alu.specs.Flags.{Flags}
+use Rattle.cpu.specs.Machine.{machine}
+use Rattle.alu.specs.Control.{flagsIn, flagsOf}
+use Rattle.cpu.specs.Held.{held}
 use Rattle.runner.specs.Ends.{asRun}
 use Rattle.runner.specs.Lent.{lent}
 use Rattle.cpu.proofs.outcome.Outcome.{the-type}

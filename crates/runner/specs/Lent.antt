@@ -2,9 +2,9 @@
 use mathlib.Core.List.{List}
 use Prim.Native.Nat.{ℕ}
 use Rattle.cpu.specs.declared.machine.Machine.{Machine}
-use Rattle.cpu.specs.declared.status.Status.{Status}
+use Rattle.alu.specs.declared.status.Status.{Status}
 use Rattle.cpu.specs.Machine.{machine}
-use Rattle.cpu.specs.Held.{flagsOf}
+use Rattle.alu.specs.Control.{flagsOf}
 
 abbrev pub lent : List ℕ → Status → Machine
 lent regs s = machine regs (flagsOf s)

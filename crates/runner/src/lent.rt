@@ -2,12 +2,12 @@
 // run and a step of a machine by value are made of it: they copy the registers
 // in and out as a whole, which is quicker than to hand a machine on.
 use super::runs::RunOutcome;
-use cpu::Control;
+use alu::Control;
+use alu::Status;
+use alu::control_of;
+use alu::status_in;
 use cpu::Outcome;
-use cpu::Status;
-use cpu::control_of;
 use cpu::fetch_and_execute;
-use cpu::status_in;
 use refusals::refusal_of;
 use units::MEMORY_BYTES;
 ghost use mathlib.Core.Path.{_≡_};

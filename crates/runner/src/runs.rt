@@ -1,7 +1,7 @@
 // A run of a machine by value.
 use super::lent::run_lent;
+use alu::Status;
 use cpu::Machine;
-use cpu::Status;
 use refusals::Refusal;
 ghost use mathlib.Core.Path.{_≡_};
 ghost use Rattle.runner.specs.Run.{runResult, runOf};

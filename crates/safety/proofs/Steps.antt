@@ -23,8 +23,9 @@ use Rattle.verifier.specs.State.{State, value, transferOf}
 use Rattle.verifier.specs.declared.branch.Target.the-variants.{To}
 use Rattle.cpu.specs.declared.machine.Machine.{Machine}
 use Rattle.cpu.specs.declared.outcome.Outcome.the-variants.{Completed}
-use Rattle.cpu.specs.Machine.{Flags, reg, pc, flags, machine, advanced, written}
-use Rattle.cpu.specs.Alu.{negative, shiftOf, conditionOf}
+use Rattle.alu.specs.Flags.{Flags}
+use Rattle.cpu.specs.Machine.{reg, pc, flags, machine, advanced, written}
+use Rattle.alu.specs.Alu.{negative, shiftOf, conditionOf}
 use Rattle.cpu.specs.Step.{StepResult, completed, effectiveAddress, executeOf, addHighOf, addPcOf, andOf, asrOf, branchOf, cmpImmOf, cmpOf, cmpHighOf, eorOf, ldrOf, ldrbOf, movImmOf, movHighOf, negOf, strOf, strbOf, tstOf}
 use Rattle.cpu_laws.specs.Sizes.{Registers, Bytes}
 use Rattle.safety.specs.Touched.{dataAddress}

@@ -1,7 +1,7 @@
 // A step by value.
+use alu::Status;
 use cpu::Machine;
 use cpu::Outcome;
-use cpu::Status;
 use runner::RunOutcome;
 use runner::run_lent;
 ghost use mathlib.Core.Path.{_≡_};

@@ -10,7 +10,8 @@ use Rattle.units.specs.Bytes.{halfwordAt}
 use Rattle.isa.specs.Decode.{decodeOf}
 use Rattle.isa.specs.declared.decoder.Decoded.the-variants.{Defined, Undefined}
 use Rattle.isa.specs.declared.instruction.Instruction.the-variants.{CmpHigh, Halt}
-use Rattle.cpu.specs.Machine.{Flags, pc, machine}
+use Rattle.alu.specs.Flags.{Flags}
+use Rattle.cpu.specs.Machine.{pc, machine}
 use Rattle.cpu.specs.Step.{stepResult, completed, stepOf}
 use Rattle.cpu.specs.declared.machine.Machine.{Machine}
 use Rattle.cpu.specs.declared.outcome.Outcome.{Outcome}

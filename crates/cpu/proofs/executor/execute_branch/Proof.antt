@@ -4,10 +4,11 @@ use mathlib.Core.Bool.{not, Bool·beq}
 use mathlib.Core.Path.{_≡_, ap, _∙_}
 use lib.Dec.{lit<}
 use Rattle.units.specs.Field.{field}
-use Rattle.cpu.specs.Held.{flagsIn, branchElse}
+use Rattle.alu.specs.Control.{flagsIn}
+use Rattle.cpu.specs.Held.{branchElse}
 use Rattle.cpu.proofs.Dispatch.{is-none}
 use Rattle.cpu.proofs.Formats.{none, branch-arm}
-use Rattle.cpu.proofs.Turned.{twice, lower, not-greater}
+use Rattle.alu.proofs.Turned.{twice, lower, not-greater}
 use borrow.Author.Needs.{needs}
 use Rattle.cpu.proofs.executor.execute_branch.Statement.{statement}
 use Rattle.cpu.proofs.executor.execute_branch.Tie as tie

@@ -1,7 +1,8 @@
 -- The PC is written where a machine has it, and the flags are those that are held.
 use mathlib.Core.Path.{refl, ap}
 use lib.ListN.{set}
-use Rattle.cpu.specs.Machine.{Flags, machine}
+use Rattle.alu.specs.Flags.{Flags}
+use Rattle.cpu.specs.Machine.{machine}
 use borrow.Author.Needs.{needs}
 use Rattle.runner.proofs.lent.ended.Statement.{statement}
 use Rattle.runner.proofs.lent.ended.Tie as tie
