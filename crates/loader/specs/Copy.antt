@@ -5,7 +5,7 @@ use lib.ListN.{take, drop, replicate}
 use Rattle.units.specs.Bytes.{withHalfword}
 use Rattle.image.specs.Code.{codeAt}
 use Rattle.image.specs.Format.{blockCode}
-use Rattle.verifier.specs.Targets.{addressOf}
+use Rattle.targets.specs.Targets.{addressOf}
 
 -- the first n instructions of a file copied to address 0
 unfoldable pub withCode : List ℕ → ℕ → List ℕ → List ℕ

@@ -10,9 +10,9 @@ use Rattle.isa.specs.declared.instruction.Instruction.the-variants.{MovImm, Cmp
 use Rattle.image.specs.declared.checker.Layout.{Layout}
 use Rattle.domain_laws.specs.Holds.{Holds}
 use Rattle.domain_laws.proofs.Zeros.{zeros-less}
-use Rattle.verifier.specs.Access.{Access, accessOf}
-use Rattle.verifier.specs.Questions.{check10, check11}
-use Rattle.verifier.specs.State.{State, value}
+use Rattle.checks.specs.Access.{Access, accessOf}
+use Rattle.checks.specs.Questions.{check10, check11}
+use Rattle.checks.specs.State.{State, value}
 use Rattle.cpu.specs.declared.machine.Machine.{Machine}
 use Rattle.cpu.specs.Machine.{reg}
 use Rattle.safety.specs.Touched.{InData}

@@ -7,7 +7,7 @@ use lib.ListN.{length}
 use Rattle.image.proofs.Valid.{valid-window, valid-code, valid-code-bytes}
 use Rattle.image.specs.Code.{codeOf}
 use Rattle.image.specs.declared.checker.Layout.{Layout}
-use Rattle.verifier.specs.Targets.{goesTo, targeted}
+use Rattle.targets.specs.Targets.{goesTo, targeted}
 use Rattle.verifier.specs.Verify.{verifyOf}
 use Rattle.verifier.specs.declared.verifier.Verdict.the-variants.{Fit}
 use Rattle.verifier_laws.proofs.Targets.{goes-targeted}

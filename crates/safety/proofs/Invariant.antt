@@ -17,11 +17,12 @@ use Rattle.isa.specs.declared.decoder.Decoded.the-variants.{Defined}
 use Rattle.isa.specs.declared.instruction.Instruction.{Instruction}
 use Rattle.isa.specs.declared.instruction.Instruction.the-variants.{Halt}
 use Rattle.image.specs.declared.checker.Layout.{Layout}
-use Rattle.verifier.specs.Access.{accessOf, jumpOf}
-use Rattle.verifier.specs.State.{transferOf, afterOf}
-use Rattle.verifier.specs.Targets.{addressOf, decodedAt, goesTo, targeted}
+use Rattle.targets.specs.Jumps.{jumpOf}
+use Rattle.targets.specs.Targets.{addressOf, decodedAt, goesTo, targeted}
+use Rattle.targets.specs.declared.branch.Target.the-variants.{To}
+use Rattle.checks.specs.Access.{accessOf}
+use Rattle.checks.specs.State.{transferOf, afterOf}
 use Rattle.verifier.specs.Verify.{entering, valuesAt}
-use Rattle.verifier.specs.declared.branch.Target.the-variants.{To}
 use Rattle.cpu.specs.declared.machine.Machine.{Machine}
 use Rattle.cpu.specs.declared.outcome.Outcome.the-variants.{Completed, Halted}
 use Rattle.cpu.specs.Machine.{pc}

@@ -13,7 +13,7 @@ use Rattle.domain.specs.Value.{unknownOf, exactlyOf}
 use Rattle.domain.specs.declared.value.Value.{Value}
 use Rattle.domain_laws.specs.Holds.{Holds}
 use Rattle.domain_laws.proofs.Sound.{unknown-sound, exactly-sound}
-use Rattle.verifier.specs.State.{State, value, unknownState, standingAt}
+use Rattle.checks.specs.State.{State, value, unknownState, standingAt}
 use Rattle.cpu.specs.Machine.{advanced, written}
 use Rattle.cpu_laws.specs.Sizes.{Registers}
 

@@ -17,10 +17,11 @@ use Rattle.isa.specs.declared.instruction.Instruction.the-variants.{MovImm, Cmp
 use Rattle.domain.specs.declared.value.Value.{Value}
 use Rattle.domain_laws.specs.Holds.{Holds}
 use Rattle.domain_laws.proofs.Sound.{unknown-sound, exactly-sound, byte-sound, neg-sound, asr-sound, add-sound, and-sound, eor-sound}
-use Rattle.verifier.specs.Access.{accessOf, jumpOf}
-use Rattle.verifier.specs.Questions.{check12}
-use Rattle.verifier.specs.State.{State, value, transferOf}
-use Rattle.verifier.specs.declared.branch.Target.the-variants.{To}
+use Rattle.targets.specs.Jumps.{jumpOf}
+use Rattle.targets.specs.declared.branch.Target.the-variants.{To}
+use Rattle.checks.specs.Access.{accessOf}
+use Rattle.checks.specs.Questions.{check12}
+use Rattle.checks.specs.State.{State, value, transferOf}
 use Rattle.cpu.specs.declared.machine.Machine.{Machine}
 use Rattle.cpu.specs.declared.outcome.Outcome.the-variants.{Completed}
 use Rattle.alu.specs.Flags.{Flags}

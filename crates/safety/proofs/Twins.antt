@@ -6,8 +6,8 @@ use Prim.Native.Nat.{ℕ, zero, suc, _+_}
 use native.Mathlib.Omega.{arith}
 use Rattle.isa.specs.declared.decoder.Decoded.the-variants.{Defined}
 use Rattle.image.specs.declared.checker.Layout.{Layout}
-use Rattle.verifier.specs.Access.{accessOf}
-use Rattle.verifier.specs.Targets.{decodedAt}
+use Rattle.targets.specs.Targets.{decodedAt}
+use Rattle.checks.specs.Access.{accessOf}
 use Rattle.cpu.specs.Machine.{pc}
 use Rattle.cpu.specs.Step.{State, stepOf}
 use Rattle.runner.specs.Run.{nextState, runFrom}

@@ -10,7 +10,7 @@ use Rattle.isa.specs.declared.decoder.Decoded.the-variants.{Defined}
 use Rattle.isa.specs.declared.instruction.Instruction.{Instruction}
 use Rattle.isa.specs.declared.instruction.Instruction.the-variants.{Halt}
 use Rattle.image.specs.declared.checker.Layout.{Layout}
-use Rattle.verifier.specs.Access.{Access, accessOf}
+use Rattle.checks.specs.Access.{Access, accessOf}
 use Rattle.verifier.specs.Verify.{verifyOf}
 use Rattle.verifier.specs.declared.verifier.Verdict.the-variants.{Fit}
 use Rattle.cpu.specs.declared.machine.Machine.{Machine}

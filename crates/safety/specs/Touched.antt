@@ -8,7 +8,7 @@ use Rattle.units.specs.Address.{memoryBytes}
 use Rattle.units.specs.Bytes.{byteAt}
 use Rattle.isa.specs.declared.decoder.Decoded.the-variants.{Defined}
 use Rattle.isa.specs.declared.instruction.Instruction.{Instruction}
-use Rattle.verifier.specs.Access.{Access, accessOf}
+use Rattle.checks.specs.Access.{Access, accessOf}
 use Rattle.cpu.specs.declared.machine.Machine.{Machine}
 use Rattle.cpu.specs.Machine.{pc}
 use Rattle.cpu.specs.Step.{StepResult, effectiveAddress, fetched, stepOf}

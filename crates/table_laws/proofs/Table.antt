@@ -14,7 +14,7 @@ use Rattle.image.specs.Code.{codeAt, codeLength, codeOf}
 use Rattle.image.specs.Format.{tabulateFrom}
 use Rattle.packer.specs.Pack.{bodyHalfword, balanceOf, imageHalfword, imageOf}
 use Rattle.domain.specs.Value.{intervalOf, addOf, andOf, eorOf}
-use Rattle.verifier.specs.Targets.{decodedAt, goesTo, targetedBelow, targeted}
+use Rattle.targets.specs.Targets.{decodedAt, goesTo, targetedBelow, targeted}
 use Rattle.verifier.specs.Verify.{entering, verifyCode, verifyOf}
 use lib.Count.{leadingZeros, trailingZeros}
 use Rattle.table_laws.specs.Table.{StandsOn, Gives, StarredRows}

@@ -1,5 +1,4 @@
 pub mod Accepted
-pub mod Bits
 pub mod Jumps
 pub mod Marking
 pub mod Memory

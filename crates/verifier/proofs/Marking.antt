@@ -13,9 +13,9 @@ use Rattle.units.specs.declared.address.InstructionIndex.{InstructionIndex}
 use Rattle.isa.specs.Decode.{decodeOf}
 use Rattle.isa.specs.declared.decoder.Decoded.{Decoded}
 use Rattle.image.specs.Format.{mostCode}
-use Rattle.verifier.specs.Targets.{addressOf, decodedAt, jumpAt, landsOn, goesTo, targetedBelow, markedAt}
-use Rattle.verifier.specs.declared.branch.Target.{Target}
-use Rattle.verifier.specs.declared.branch.Target.the-variants.{To, Nowhere}
+use Rattle.targets.specs.Targets.{addressOf, decodedAt, jumpAt, landsOn, goesTo, targetedBelow, markedAt}
+use Rattle.targets.specs.declared.branch.Target.{Target}
+use Rattle.targets.specs.declared.branch.Target.the-variants.{To, Nowhere}
 
 -- the jump that the code finds is that of the halfword
 pub jump-is : (a b : ByteAddress) (d : Decoded) (t : Target) → a ≡ b → t ≡ jumpAt a d → jumpAt b d ≡ t

@@ -8,9 +8,9 @@ use Rattle.isa.specs.declared.decoder.Decoded.{Decoded}
 use Rattle.isa.specs.declared.decoder.Decoded.the-variants.{Defined, Undefined}
 use Rattle.image.specs.Check.{firstNo}
 use Rattle.image.specs.declared.checker.Layout.{Layout}
-use Rattle.verifier.specs.Access.{accessOf}
-use Rattle.verifier.specs.State.{State, value}
-use Rattle.verifier.specs.Questions.{check10, check11, check12, check13, check14, atAddress, halfwordChecks, answerAt}
+use Rattle.checks.specs.Access.{accessOf}
+use Rattle.checks.specs.State.{State, value}
+use Rattle.checks.specs.Questions.{check10, check11, check12, check13, check14, atAddress, halfwordChecks, answerAt}
 use Rattle.verifier.specs.Numbers.{firstOf, numberOf}
 
 -- check 14 after a number

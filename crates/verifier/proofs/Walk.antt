@@ -20,10 +20,10 @@ use Rattle.image.specs.declared.answer.Answer.{Answer}
 use Rattle.image.specs.declared.answer.Answer.the-variants as answer
 use Rattle.image.specs.declared.checker.Layout.{Layout}
 use Rattle.image.proofs.Answers.{next, stands}
-use Rattle.verifier.specs.State.{State, unknownState, standingAt, transferOf, afterOf}
-use Rattle.verifier.specs.Targets.{addressOf, decodedAt, targeted}
+use Rattle.targets.specs.Targets.{addressOf, decodedAt, targeted}
+use Rattle.checks.specs.State.{State, unknownState, standingAt, transferOf, afterOf}
+use Rattle.checks.specs.Questions.{halfwordChecks, answerAt}
 use Rattle.verifier.specs.Numbers.{numberOf}
-use Rattle.verifier.specs.Questions.{halfwordChecks, answerAt}
 use Rattle.verifier.specs.Progress.{lastAnswer, PassedBelow}
 use Rattle.verifier.specs.Verify.{entering, valuesAt, checksAt, codeChecks, verdictAs, verifyCode}
 use Rattle.verifier.specs.declared.verifier.Verdict.the-variants.{Fit, Refused}

@@ -6,7 +6,7 @@ use native.Mathlib.Nat.{le-of-suc-le-suc, not-suc-le-zero}
 use native.Mathlib.Omega.{arith}
 use lib.ListN.{length, getD, set, replicate}
 use Rattle.domain.specs.declared.value.Value.{Value}
-use Rattle.verifier.specs.State.{State, value}
+use Rattle.checks.specs.State.{State, value}
 use Rattle.verifier.specs.Words.{valueOf, stateOf}
 
 pub length-state : (ws : List ℕ) → length (stateOf ws) ≡ length ws

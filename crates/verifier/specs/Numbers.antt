@@ -6,9 +6,9 @@ use Rattle.units.specs.declared.address.ByteAddress.{ByteAddress}
 use Rattle.isa.specs.declared.decoder.Decoded.{Decoded}
 use Rattle.isa.specs.declared.decoder.Decoded.the-variants.{Defined, Undefined}
 use Rattle.image.specs.declared.checker.Layout.{Layout}
-use Rattle.verifier.specs.Access.{accessOf}
-use Rattle.verifier.specs.State.{State, value}
-use Rattle.verifier.specs.Questions.{check10, check11, check12, check13}
+use Rattle.checks.specs.Access.{accessOf}
+use Rattle.checks.specs.State.{State, value}
+use Rattle.checks.specs.Questions.{check10, check11, check12, check13}
 
 -- of an instruction, whose checks come out so
 abbrev pub firstOf : Bool → Bool → Bool → Bool → ℕ

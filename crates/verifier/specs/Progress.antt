@@ -9,10 +9,10 @@ use Rattle.image.specs.Check.{firstNo}
 use Rattle.image.specs.declared.answer.Answer.{Answer}
 use Rattle.image.specs.declared.answer.Answer.the-variants as answer
 use Rattle.image.specs.declared.checker.Layout.{Layout}
+use Rattle.targets.specs.Targets.{addressOf}
+use Rattle.checks.specs.State.{State}
+use Rattle.checks.specs.Questions.{check14, answerAt}
 use Rattle.verifier.specs.declared.verifier.Verdict.the-variants.{Refused}
-use Rattle.verifier.specs.State.{State}
-use Rattle.verifier.specs.Targets.{addressOf}
-use Rattle.verifier.specs.Questions.{check14, answerAt}
 use Rattle.verifier.specs.Verify.{entering, codeChecks, verifyCode}
 
 -- what check 14 says of the first n instructions: something only where they are the whole code

@@ -11,11 +11,11 @@ use Rattle.image.specs.declared.answer.Answer.the-variants as answer
 use Rattle.image.specs.declared.checker.Checked.{Checked}
 use Rattle.image.specs.declared.checker.Checked.the-variants as checked
 use Rattle.image.specs.declared.checker.Layout.{Layout}
+use Rattle.targets.specs.Targets.{addressOf, decodedAt, targeted}
+use Rattle.checks.specs.State.{State, unknownState, standingAt, afterOf}
+use Rattle.checks.specs.Questions.{halfwordChecks}
 use Rattle.verifier.specs.declared.verifier.Verdict.{Verdict}
 use Rattle.verifier.specs.declared.verifier.Verdict.the-variants.{Fit, Refused}
-use Rattle.verifier.specs.State.{State, unknownState, standingAt, afterOf}
-use Rattle.verifier.specs.Targets.{addressOf, decodedAt, targeted}
-use Rattle.verifier.specs.Questions.{halfwordChecks}
 
 -- the state in which instruction i is checked, from the state that falls into it: at a branch target nothing is known but the address
 abbrev pub arriving : List ℕ → ℕ → State → State

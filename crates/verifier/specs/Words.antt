@@ -2,7 +2,7 @@
 use mathlib.Core.List.{List, [], _∷_}
 use Prim.Native.Nat.{ℕ, _/_, _%_}
 use Rattle.domain.specs.declared.value.Value.{Value}
-use Rattle.verifier.specs.State.{State}
+use Rattle.checks.specs.State.{State}
 
 -- the value that a word holds: the bounds in 16 bits each, then the count
 abbrev pub valueOf : ℕ → Value

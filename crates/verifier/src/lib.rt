@@ -2,14 +2,11 @@
 // and its window. One pass over the code finds the branch targets; one walk
 // upward carries an abstract value for each register and checks each
 // instruction with the values before it.
-mod branch;
-mod checks;
 mod code;
 mod marks;
 mod state;
 mod verifier;
 mod visits;
 
-pub use branch::Target;
 pub use verifier::Verdict;
 pub use verifier::verify;

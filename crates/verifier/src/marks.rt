@@ -1,50 +1,29 @@
-// The branch targets of a code: a mark for each instruction, a bit each.
-use super::branch::Target;
-use super::branch::jump;
+// The branch targets of a code, marked.
 use super::code::FIRST_POSITION;
 use super::code::block_end;
 use image::BLOCK_BYTES;
 use image::Checked;
 use image::Layout;
+use targets::Target;
+use targets::jump;
+use targets::set_mark;
 use units::ByteAddress;
 use units::InstructionIndex;
 use units::halfword_at;
 ghost use mathlib.Core.Bool.{false, _||_};
 ghost use mathlib.Core.Path.{_≡_};
 ghost use Prim.Native.Nat.{ℕ, _<_};
-ghost use lib.Dec.{eqb};
 ghost use lib.ListN.{length};
 ghost use Rattle.units.specs.Address.{byteAddressOf};
 ghost use Rattle.isa.specs.Decode.{decodeOf};
 ghost use Rattle.image.specs.Check.{checkOf};
 ghost use Rattle.image.specs.Code.{codeOf};
 ghost use Rattle.image.specs.Format.{mostCode};
+ghost use Rattle.targets.specs.Targets.{jumpAt, landsOn, targetedBelow, targeted, markWords, markedAt};
 ghost use Rattle.verifier.specs.Position.{BlockAt, blockEnd};
-ghost use Rattle.verifier.specs.Targets.{jumpAt, landsOn, targetedBelow, targeted, markWords, markedAt};
 
 // The most instructions that a code has: 64 for each word of marks.
 const MOST_CODE: u16 = image::MOST_CODE as u16;
-
-// Whether an instruction is marked.
-pub(crate) fn is_marked(marks: &[u64; 249], i: InstructionIndex) -> bool
-    requires { ⌜ i .0 < mostCode ⌝ }
-    ensures { λ r. ⌜ r ≡ markedAt (now (marks .entry)) (i .0) ⌝ }
-{
-    let number = i.0 as usize;
-    let word = number / 64;
-    (marks[word] >> (number % 64)) % 2 == 1
-}
-
-// Marks an instruction, and no other.
-fn set_mark(marks: &mut [u64; 249], i: InstructionIndex)
-    requires { ⌜ (length (now marks) ≡ markWords) × (i .0 < mostCode) ⌝ }
-    ensures { λ r. ⌜ length (now (marks .exit)) ≡ markWords ⌝ }
-    ensures { λ r. ⌜ ((j : ℕ) → markedAt (now (marks .exit)) j ≡ (eqb (i .0) j || markedAt (now (marks .entry)) j)) ⌝ }
-{
-    let number = i.0 as usize;
-    let word = number / 64;
-    marks[word] = marks[word] | (1u64 << (number % 64));
-}
 
 // Marks what the halfword `h`, instruction `i`, branches to, if it is a branch
 // and a code can reach so far.

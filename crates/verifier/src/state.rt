@@ -5,13 +5,11 @@ use domain::Value;
 ghost use mathlib.Core.Path.{_≡_};
 ghost use Prim.Native.Nat.{_<_};
 ghost use lib.ListN.{length, set};
-ghost use Rattle.verifier.specs.State.{registerCount, value};
+ghost use Rattle.checks.specs.State.{registerCount, value};
 ghost use Rattle.verifier.specs.Words.{valueOf, stateOf};
 
-// The machine has 16 registers, and R15 is the PC.
+// The machine has 16 registers.
 pub const REGISTERS: usize = 16;
-
-pub const PC: u8 = 15;
 
 // The word of a value: its bounds in 16 bits each, and the count above them.
 pub(crate) fn word_of(v: Value) -> u64

@@ -1,20 +1,20 @@
 // The walk over a code, and the verdict on a file.
-use super::checks::check_last;
 use super::code::FIRST_POSITION;
 use super::code::block_end;
-use super::marks::is_marked;
 use super::marks::mark_targets;
-use super::state::PC;
 use super::state::REGISTERS;
 use super::state::set_value;
 use super::state::word_of;
 use super::visits::visit;
+use checks::PC;
+use checks::check_last;
 use image::Answer;
 use image::BLOCK_BYTES;
 use image::Checked;
 use image::Layout;
 use refusals::Place;
 use refusals::Refusal;
+use targets::is_marked;
 use units::ByteAddress;
 use units::InstructionIndex;
 use units::halfword_at;
@@ -27,10 +27,10 @@ ghost use Rattle.units.specs.Address.{byteAddressOf};
 ghost use Rattle.image.specs.Check.{checkOf};
 ghost use Rattle.image.specs.Code.{codeOf};
 ghost use Rattle.image.specs.Format.{mostCode};
+ghost use Rattle.targets.specs.Targets.{targeted, markedAt};
+ghost use Rattle.checks.specs.State.{unknownState, standingAt};
 ghost use Rattle.verifier.specs.Position.{BlockAt, blockEnd};
 ghost use Rattle.verifier.specs.Progress.{PassedBelow, WalkedTo};
-ghost use Rattle.verifier.specs.State.{unknownState, standingAt};
-ghost use Rattle.verifier.specs.Targets.{targeted, markedAt};
 ghost use Rattle.verifier.specs.Verify.{entering, verifyCode, verifyOf};
 ghost use Rattle.verifier.specs.Words.{stateOf};
 

@@ -3,16 +3,16 @@
 // two would go through memory. Branches, operations on registers, loads and
 // stores are told by tests: a processor foresees a test better than one way more
 // out of a table.
-use super::branch::Target;
-use super::branch::jump;
-use super::checks::check_byte;
-use super::checks::check_halfword;
-use super::checks::check_target;
-use super::checks::check_write;
 use super::state::set_value;
 use super::state::value_at;
+use checks::check_byte;
+use checks::check_halfword;
+use checks::check_target;
+use checks::check_write;
 use domain::Value;
 use image::Layout;
+use targets::Target;
+use targets::jump;
 use units::ByteAddress;
 ghost use mathlib.Core.Path.{_≡_};
 ghost use lib.ListN.{length, set};
@@ -20,8 +20,8 @@ ghost use Rattle.units.specs.Address.{pcSum};
 ghost use Rattle.units.specs.Field.{field};
 ghost use Rattle.isa.specs.Decode.{haltOf, aluOf, highOf, registersOf, memoryOf, decodeOf};
 ghost use Rattle.domain.specs.Value.{exactlyOf};
-ghost use Rattle.verifier.specs.State.{State, registerCount, afterOf};
-ghost use Rattle.verifier.specs.Targets.{jumpAt};
+ghost use Rattle.targets.specs.Targets.{jumpAt};
+ghost use Rattle.checks.specs.State.{State, registerCount, afterOf};
 ghost use Rattle.verifier.specs.Words.{stateOf};
 ghost use Rattle.verifier.specs.Numbers.{numberOf};
 
@@ -144,7 +144,8 @@ fn visit_halfword(state: &mut [u64; 16], layout: Layout, h: u16) -> u8
     requires { ⌜ (length (now state) ≡ registerCount) × (field h 12 1 ≡ 0) ⌝ }
     ensures { λ r. ⌜ ((a : ByteAddress) → r ≡ numberOf (stateOf (now (state .entry))) layout a (memoryOf h)) × ((a : ByteAddress) → stateOf (now (state .exit)) ≡ afterOf a (memoryOf h) (stateOf (now (state .entry)))) ⌝ }
 {
-    let no = check_halfword(state, layout, h);
+    let base = value_at(state, units::bits(h, 3, 3));
+    let no = check_halfword(base, layout, h);
     if units::bits(h, 11, 1) == 0 {
         return no;
     }
@@ -157,7 +158,8 @@ fn visit_byte(state: &mut [u64; 16], layout: Layout, h: u16) -> u8
     requires { ⌜ (length (now state) ≡ registerCount) × (field h 12 1 ≡ 1) ⌝ }
     ensures { λ r. ⌜ ((a : ByteAddress) → r ≡ numberOf (stateOf (now (state .entry))) layout a (memoryOf h)) × ((a : ByteAddress) → stateOf (now (state .exit)) ≡ afterOf a (memoryOf h) (stateOf (now (state .entry)))) ⌝ }
 {
-    let no = check_byte(state, layout, h);
+    let base = value_at(state, units::bits(h, 3, 3));
+    let no = check_byte(base, layout, h);
     if units::bits(h, 11, 1) == 0 {
         return no;
     }

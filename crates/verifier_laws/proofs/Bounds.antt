@@ -18,8 +18,8 @@ use Rattle.domain.specs.Value.{largest, unknownOf, exactlyOf, addOf}
 use Rattle.domain.specs.declared.value.Value.{Value}
 use Rattle.domain_laws.specs.Ordered.{Ordered}
 use Rattle.domain_laws.proofs.Ordered.{unknown-ordered, exactly-ordered, byte-ordered, neg-ordered, asr-ordered, add-ordered, and-ordered, eor-ordered, add-low}
-use Rattle.verifier.specs.State.{State, value, unknownState, standingAt, transferOf, afterOf}
-use Rattle.verifier.specs.Targets.{addressOf, decodedAt, targeted}
+use Rattle.targets.specs.Targets.{addressOf, decodedAt, targeted}
+use Rattle.checks.specs.State.{State, value, unknownState, standingAt, transferOf, afterOf}
 use Rattle.verifier.specs.Verify.{entering, valuesAt}
 use Rattle.verifier.proofs.Walk.{length-values}
 use Rattle.verifier_laws.specs.Claims.{LowBelowHigh, AddsPlainly}

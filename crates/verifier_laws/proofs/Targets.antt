@@ -13,12 +13,12 @@ use Rattle.isa.specs.Decode.{decodeOf}
 use Rattle.isa.specs.declared.decoder.Decoded.{Decoded}
 use Rattle.isa.specs.declared.decoder.Decoded.the-variants.{Defined}
 use Rattle.isa.specs.declared.instruction.Instruction.{Instruction}
-use Rattle.verifier.specs.State.{unknownState, standingAt, transferOf, afterOf}
-use Rattle.verifier.specs.Targets.{addressOf, decodedAt, jumpAt, landsOn, goesTo, targetedBelow, targeted}
+use Rattle.targets.specs.Targets.{addressOf, decodedAt, jumpAt, landsOn, goesTo, targetedBelow, targeted}
+use Rattle.targets.specs.declared.branch.Target.{Target}
+use Rattle.targets.specs.declared.branch.Target.the-variants.{Nowhere}
+use Rattle.targets.proofs.Jumps.{is-branch, no-branch}
+use Rattle.checks.specs.State.{unknownState, standingAt, transferOf, afterOf}
 use Rattle.verifier.specs.Verify.{entering, valuesAt}
-use Rattle.verifier.specs.declared.branch.Target.{Target}
-use Rattle.verifier.specs.declared.branch.Target.the-variants.{Nowhere}
-use Rattle.verifier.proofs.Jumps.{is-branch, no-branch}
 use Rattle.verifier_laws.specs.Passes.{Reached}
 use Rattle.verifier_laws.specs.Claims.{TargetsExactly, ForgetsAtTargets}
 

@@ -17,8 +17,8 @@ use Rattle.image.specs.declared.checker.Checked.{Checked}
 use Rattle.image.specs.declared.checker.Checked.the-variants as checked
 use Rattle.image.specs.declared.checker.Layout.{Layout}
 use Rattle.image.proofs.Answers.{head-passed, tail-passed, next, stands, each-passed, all-passed}
-use Rattle.verifier.specs.Targets.{addressOf, decodedAt}
-use Rattle.verifier.specs.Questions.{halfwordChecks}
+use Rattle.targets.specs.Targets.{addressOf, decodedAt}
+use Rattle.checks.specs.Questions.{halfwordChecks}
 use Rattle.verifier.specs.Verify.{valuesAt, checksAt, codeChecks, verdictAs, verifyCode, verifyChecked, verifyOf}
 use Rattle.verifier.specs.declared.verifier.Verdict.the-variants.{Fit, Refused}
 use Rattle.verifier.proofs.Walk.{refusal, fit}

@@ -16,8 +16,8 @@ use Rattle.image.specs.declared.checker.Checked.the-variants as checked
 use Rattle.image.specs.declared.checker.Layout.{Layout}
 use Rattle.domain.specs.Value.{largest}
 use Rattle.domain_laws.specs.Ordered.{Ordered}
-use Rattle.verifier.specs.State.{value, unknownState, standingAt, transferOf}
-use Rattle.verifier.specs.Targets.{addressOf, decodedAt, targeted}
+use Rattle.targets.specs.Targets.{addressOf, decodedAt, targeted}
+use Rattle.checks.specs.State.{value, unknownState, standingAt, transferOf}
 use Rattle.verifier.specs.Verify.{entering, valuesAt, checksAt, verifyOf}
 use Rattle.verifier.specs.declared.verifier.Verdict.the-variants.{Fit, Refused}
 use Rattle.verifier_laws.specs.Passes.{Passes, Reached}

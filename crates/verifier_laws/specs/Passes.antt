@@ -10,10 +10,10 @@ use Rattle.isa.specs.declared.decoder.Decoded.the-variants.{Defined}
 use Rattle.isa.specs.declared.instruction.Instruction.{Instruction}
 use Rattle.isa.specs.declared.instruction.Instruction.the-variants.{Branch}
 use Rattle.image.specs.declared.checker.Layout.{Layout}
-use Rattle.verifier.specs.Access.{accessOf}
-use Rattle.verifier.specs.State.{value}
-use Rattle.verifier.specs.Targets.{addressOf, decodedAt}
-use Rattle.verifier.specs.Questions.{check10, check11, check12, check13, check14}
+use Rattle.targets.specs.Targets.{addressOf, decodedAt}
+use Rattle.checks.specs.Access.{accessOf}
+use Rattle.checks.specs.State.{value}
+use Rattle.checks.specs.Questions.{check10, check11, check12, check13, check14}
 use Rattle.verifier.specs.Verify.{valuesAt}
 
 -- instruction i of a code with a layout gets a yes to checks 9 to 14, in the state before it

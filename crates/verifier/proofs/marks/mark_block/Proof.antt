@@ -6,8 +6,8 @@ use native.Mathlib.Omega.{arith}
 use lib.ListN.{length}
 use Rattle.image.specs.Code.{codePosition, codeOf}
 use Rattle.image.specs.Format.{mostCode}
+use Rattle.targets.specs.Targets.{targetedBelow, markWords, markedAt}
 use Rattle.verifier.specs.Position.{blockEnd}
-use Rattle.verifier.specs.Targets.{targetedBelow, markWords, markedAt}
 use Rattle.verifier.proofs.Accepted.{count-is, position-inside, position-small, halfword-is}
 use Rattle.verifier.proofs.Marking.{mark-next}
 use Rattle.verifier.proofs.Position.{ends, in-block}

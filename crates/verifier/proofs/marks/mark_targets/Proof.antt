@@ -5,8 +5,8 @@ use native.Mathlib.Omega.{arith}
 use lib.ListN.{length}
 use Rattle.image.specs.Code.{codeOf}
 use Rattle.image.specs.Format.{mostCode}
+use Rattle.targets.specs.Targets.{targetedBelow, targeted, markWords, markedAt}
 use Rattle.verifier.specs.Position.{BlockAt, blockEnd}
-use Rattle.verifier.specs.Targets.{targetedBelow, targeted, markWords, markedAt}
 use Rattle.verifier.proofs.Accepted.{count-is, position-small}
 use Rattle.verifier.proofs.Position.{on}
 use borrow.Author.Needs.{needs}

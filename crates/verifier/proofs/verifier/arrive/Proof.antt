@@ -3,8 +3,8 @@ use mathlib.Core.Bool.{Bool, cond}
 use mathlib.Core.Logic.{⊎-elim}
 use mathlib.Core.Path.{_≡_, refl, sym, ap, _∙_}
 use lib.ListN.{replicate}
-use Rattle.verifier.specs.State.{State, unknownState}
-use Rattle.verifier.specs.Targets.{markedAt}
+use Rattle.targets.specs.Targets.{markedAt}
+use Rattle.checks.specs.State.{State, unknownState}
 use Rattle.verifier.specs.Words.{stateOf}
 use Rattle.verifier.proofs.Words.{state-replicate}
 use borrow.Author.Needs.{needs}

@@ -7,8 +7,8 @@ use Rattle.image.specs.Code.{codeOf}
 use Rattle.image.specs.Check.{firstNo}
 use Rattle.refusals.specs.Refusal.{refusalAt}
 use Rattle.image.proofs.Valid.{valid-code, code-in-file, code-halfword}
-use Rattle.verifier.specs.Targets.{addressOf}
-use Rattle.verifier.specs.Questions.{answerAt}
+use Rattle.targets.specs.Targets.{addressOf}
+use Rattle.checks.specs.Questions.{answerAt}
 use Rattle.verifier.specs.Verify.{codeChecks}
 use Rattle.verifier.specs.declared.verifier.Verdict.the-variants.{Refused}
 use Rattle.verifier.proofs.Accepted.{count-is}

@@ -6,13 +6,13 @@ use native.Mathlib.Omega.{arith}
 use lib.ListN.{length, replicate}
 use Rattle.image.specs.Check.{firstNo, rowsBelow}
 use Rattle.image.specs.Code.{codeOf}
+use Rattle.targets.proofs.Bits.{none-marked}
+use Rattle.checks.specs.State.{unknownState}
 use Rattle.verifier.specs.Position.{BlockAt, blockEnd}
 use Rattle.verifier.specs.Progress.{PassedBelow}
-use Rattle.verifier.specs.State.{unknownState}
 use Rattle.verifier.specs.Words.{stateOf}
 use Rattle.verifier.specs.Verify.{entering}
 use Rattle.verifier.proofs.Accepted.{count-is, position-small}
-use Rattle.verifier.proofs.Bits.{none-marked}
 use Rattle.verifier.proofs.Position.{on}
 use Rattle.verifier.proofs.Words.{state-replicate}
 use borrow.Author.Needs.{needs}

@@ -8,9 +8,9 @@ use lib.ListN.{length, getD}
 use Rattle.image.specs.Code.{codePosition, codeOf}
 use Rattle.image.specs.declared.checker.Layout.{Layout}
 use Rattle.image.proofs.Valid.{valid-code}
+use Rattle.checks.specs.State.{State}
 use Rattle.verifier.specs.Position.{blockEnd}
 use Rattle.verifier.specs.Progress.{PassedBelow}
-use Rattle.verifier.specs.State.{State}
 use Rattle.verifier.specs.Words.{stateOf}
 use Rattle.verifier.specs.declared.verifier.Verdict.the-variants.{Refused}
 use Rattle.verifier.specs.Verify.{entering, valuesAt}

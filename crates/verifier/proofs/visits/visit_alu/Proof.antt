@@ -3,7 +3,7 @@ use mathlib.Core.Path.{_≡_, _∙_}
 use Prim.Native.Nat.{_≤_}
 use native.Mathlib.Omega.{arith}
 use Rattle.units.specs.Field.{field}
-use Rattle.verifier.specs.State.{value}
+use Rattle.checks.specs.State.{value}
 use Rattle.verifier.specs.Words.{stateOf}
 use Rattle.isa.proofs.Table.{entry-past}
 use borrow.Author.Needs.{needs}

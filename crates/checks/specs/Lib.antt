@@ -1,0 +1,4 @@
+pub mod Access
+pub mod State
+pub mod Questions
+pub mod Numbers
