@@ -1,4 +1,2 @@
 pub mod Date
 pub mod Version
-pub mod Instructions
-pub mod Answers

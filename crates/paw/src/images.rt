@@ -1,20 +1,17 @@
 // The C faces of the check, the block reader and the packer.
-use super::answers::checked_word;
-use super::answers::given_word;
-use super::answers::packed_number;
 ghost use mathlib.Core.Path.{_≡_};
 ghost use lib.ListN.{length};
 ghost use Rattle.image.specs.Check.{checkOf};
 ghost use Rattle.reader.specs.Reader.{givenOf};
 ghost use Rattle.packer.specs.Pack.{packOf, outputOf};
-ghost use Rattle.paw.specs.Answers.{checkedWord, givenWord, packedNumber};
+ghost use Rattle.answers.specs.Answers.{checkedWord, givenWord, packedNumber};
 
 // Puts checks 2 to 8 to a file.
 #[no_mangle]
 pub extern "C" fn paw_check(file: &[u8]) -> u64
     ensures { λ r. ⌜ r ≡ checkedWord (checkOf (now (file .entry))) ⌝ }
 {
-    checked_word(image::check(file))
+    answers::checked_word(image::check(file))
 }
 
 // What the reader of a file answers to its call number `n`, from 0: the refusal
@@ -23,7 +20,7 @@ pub extern "C" fn paw_check(file: &[u8]) -> u64
 pub extern "C" fn paw_block(file: &[u8], n: usize) -> u64
     ensures { λ r. ⌜ r ≡ givenWord (givenOf (now (file .entry)) n) ⌝ }
 {
-    given_word(reader::given_at(file, n))
+    answers::given_word(reader::given_at(file, n))
 }
 
 // Writes the image of a code to an output of exactly its length. A refusal
@@ -32,5 +29,5 @@ pub extern "C" fn paw_block(file: &[u8], n: usize) -> u64
 pub extern "C" fn paw_pack(code: &[u16], w: u16, l: u16, out: &mut [u8]) -> u32
     ensures { λ r. ⌜ (r ≡ packedNumber (packOf (now (code .entry)) w l (length (now (out .entry))))) × (now (out .exit) ≡ outputOf (now (code .entry)) w l (now (out .entry))) ⌝ }
 {
-    packed_number(packer::pack(code, w, l, out))
+    answers::packed_number(packer::pack(code, w, l, out))
 }

@@ -1,7 +1,7 @@
 // The C face of the firmware: every entry point under a name that C and Rust
 // can link, with answers in plain numbers. include/ and rust/paw say how each
-// answer is taken apart; specs/ gives every number its meaning.
-mod answers;
+// answer is taken apart; specs/ here and in `answers`, `endings` and `words`
+// gives every number its meaning.
 mod date;
 mod images;
 mod instructions;

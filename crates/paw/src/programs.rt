@@ -1,17 +1,15 @@
 // The C faces of the verifier and the loader.
-use super::answers::loaded_word;
-use super::answers::verdict_word;
 ghost use mathlib.Core.Path.{_≡_};
 ghost use Rattle.verifier.specs.Verify.{verifyOf};
 ghost use Rattle.loader.specs.Load.{loadOf, memoryAfterLoad};
-ghost use Rattle.paw.specs.Answers.{verdictWord, loadedWord};
+ghost use Rattle.answers.specs.Answers.{verdictWord, loadedWord};
 
 // Puts checks 2 to 14 to a file.
 #[no_mangle]
 pub extern "C" fn paw_verify(file: &[u8]) -> u64
     ensures { λ r. ⌜ r ≡ verdictWord (verifyOf (now (file .entry))) ⌝ }
 {
-    verdict_word(verifier::verify(file))
+    answers::verdict_word(verifier::verify(file))
 }
 
 // Puts checks 1 to 14 and loads the program. A refusal leaves memory as it was.
@@ -19,5 +17,5 @@ pub extern "C" fn paw_verify(file: &[u8]) -> u64
 pub extern "C" fn paw_load(file: &[u8], memory: &mut [u8]) -> u64
     ensures { λ r. ⌜ (r ≡ loadedWord (loadOf (now (file .entry)) (now (memory .entry)))) × (now (memory .exit) ≡ memoryAfterLoad (now (file .entry)) (now (memory .entry))) ⌝ }
 {
-    loaded_word(loader::load(file, memory))
+    answers::loaded_word(loader::load(file, memory))
 }

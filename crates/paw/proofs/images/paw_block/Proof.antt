@@ -8,7 +8,7 @@ use Rattle.reader.specs.Reader.{givenOf}
 use Rattle.reader.specs.declared.reader.Given.{Given}
 use Rattle.reader.specs.declared.reader.Given.the-variants.{Refused, Block, NoneLeft}
 use Rattle.reader.proofs.Blocks.{block-in-image}
-use Rattle.paw.specs.Answers.{givenWord, startOf}
+use Rattle.answers.specs.Answers.{givenWord, startOf}
 use Rattle.paw.proofs.images.paw_block.Statement.{statement}
 use Rattle.paw.proofs.images.paw_block.Tie as tie
 

@@ -1,7 +1,7 @@
 -- The word of what `check` answers.
 use mathlib.Core.Path.{ap, _∙_}
 use borrow.Author.Needs.{needs}
-use Rattle.paw.specs.Answers.{checkedWord}
+use Rattle.answers.specs.Answers.{checkedWord}
 use Rattle.paw.proofs.images.paw_check.Statement.{statement}
 use Rattle.paw.proofs.images.paw_check.Tie as tie
 

@@ -1,7 +1,7 @@
 -- The number of what `pack` answers, and its output.
 use mathlib.Core.Path.{ap, _∙_}
 use borrow.Author.Needs.{needs}
-use Rattle.paw.specs.Answers.{packedNumber}
+use Rattle.answers.specs.Answers.{packedNumber}
 use Rattle.paw.proofs.images.paw_pack.Statement.{statement}
 use Rattle.paw.proofs.images.paw_pack.Tie as tie
 

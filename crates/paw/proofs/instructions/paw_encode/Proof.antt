@@ -1,7 +1,7 @@
 -- The number of what `instruction_of` answers.
 use mathlib.Core.Path.{ap, _∙_}
 use borrow.Author.Needs.{needs}
-use Rattle.paw.specs.Instructions.{encodedWord}
+use Rattle.answers.specs.Instructions.{encodedWord}
 use Rattle.paw.proofs.instructions.paw_encode.Statement.{statement}
 use Rattle.paw.proofs.instructions.paw_encode.Tie as tie
 

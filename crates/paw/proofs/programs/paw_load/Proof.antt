@@ -1,7 +1,7 @@
 -- The word of what `load` answers, and the memory that it leaves.
 use mathlib.Core.Path.{ap, _∙_}
 use borrow.Author.Needs.{needs}
-use Rattle.paw.specs.Answers.{loadedWord}
+use Rattle.answers.specs.Answers.{loadedWord}
 use Rattle.paw.proofs.programs.paw_load.Statement.{statement}
 use Rattle.paw.proofs.programs.paw_load.Tie as tie
 

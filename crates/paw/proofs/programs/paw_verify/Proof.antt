@@ -1,7 +1,7 @@
 -- The word of what `verify` answers.
 use mathlib.Core.Path.{ap, _∙_}
 use borrow.Author.Needs.{needs}
-use Rattle.paw.specs.Answers.{verdictWord}
+use Rattle.answers.specs.Answers.{verdictWord}
 use Rattle.paw.proofs.programs.paw_verify.Statement.{statement}
 use Rattle.paw.proofs.programs.paw_verify.Tie as tie
 

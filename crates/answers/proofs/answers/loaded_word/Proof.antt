@@ -1,9 +1,9 @@
 -- Each case is the definition's.
 use mathlib.Core.Path.{sym, ap, _∙_}
 use borrow.Author.Needs.{needs}
-use Rattle.paw.specs.Answers.{loadedWord}
-use Rattle.paw.proofs.answers.loaded_word.Statement.{statement}
-use Rattle.paw.proofs.answers.loaded_word.Tie as tie
+use Rattle.answers.specs.Answers.{loadedWord}
+use Rattle.answers.proofs.answers.loaded_word.Statement.{statement}
+use Rattle.answers.proofs.answers.loaded_word.Tie as tie
 
 pub loaded-word-spec : {M : Type 1} → statement M
 loaded-word-spec =

@@ -1,9 +1,9 @@
 -- The number of what `encode` answers.
 use mathlib.Core.Path.{sym, ap, _∙_}
 use borrow.Author.Needs.{needs}
-use Rattle.paw.specs.Instructions.{encodedNumber, encodedWord}
-use Rattle.paw.proofs.instructions.encoded_word.Statement.{statement}
-use Rattle.paw.proofs.instructions.encoded_word.Tie as tie
+use Rattle.answers.specs.Instructions.{encodedNumber, encodedWord}
+use Rattle.answers.proofs.instructions.encoded_word.Statement.{statement}
+use Rattle.answers.proofs.instructions.encoded_word.Tie as tie
 
 pub encoded-word-spec : {M : Type 1} → statement M
 encoded-word-spec =

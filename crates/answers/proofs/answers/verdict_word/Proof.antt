@@ -1,9 +1,9 @@
 -- Each case is the definition's.
 use mathlib.Core.Path.{sym, ap, _∙_}
 use borrow.Author.Needs.{needs}
-use Rattle.paw.specs.Answers.{verdictWord}
-use Rattle.paw.proofs.answers.verdict_word.Statement.{statement}
-use Rattle.paw.proofs.answers.verdict_word.Tie as tie
+use Rattle.answers.specs.Answers.{verdictWord}
+use Rattle.answers.proofs.answers.verdict_word.Statement.{statement}
+use Rattle.answers.proofs.answers.verdict_word.Tie as tie
 
 pub verdict-word-spec : {M : Type 1} → statement M
 verdict-word-spec =

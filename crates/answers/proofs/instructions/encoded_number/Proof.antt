@@ -1,9 +1,9 @@
 -- Each case is the definition's.
 use mathlib.Core.Path.{sym, ap}
 use borrow.Author.Needs.{needs}
-use Rattle.paw.specs.Instructions.{encodedNumber}
-use Rattle.paw.proofs.instructions.encoded_number.Statement.{statement}
-use Rattle.paw.proofs.instructions.encoded_number.Tie as tie
+use Rattle.answers.specs.Instructions.{encodedNumber}
+use Rattle.answers.proofs.instructions.encoded_number.Statement.{statement}
+use Rattle.answers.proofs.instructions.encoded_number.Tie as tie
 
 pub encoded-number-spec : {M : Type 1} → statement M
 encoded-number-spec =

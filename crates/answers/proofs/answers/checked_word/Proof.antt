@@ -1,9 +1,9 @@
 -- Each case is the definition's.
 use mathlib.Core.Path.{sym, ap, _∙_}
 use borrow.Author.Needs.{needs}
-use Rattle.paw.specs.Answers.{checkedWord}
-use Rattle.paw.proofs.answers.checked_word.Statement.{statement}
-use Rattle.paw.proofs.answers.checked_word.Tie as tie
+use Rattle.answers.specs.Answers.{checkedWord}
+use Rattle.answers.proofs.answers.checked_word.Statement.{statement}
+use Rattle.answers.proofs.answers.checked_word.Tie as tie
 
 pub checked-word-spec : {M : Type 1} → statement M
 checked-word-spec =

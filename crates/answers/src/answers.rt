@@ -9,10 +9,10 @@ use refusals::Refusal;
 use verifier::Verdict;
 ghost use mathlib.Core.Path.{_≡_};
 ghost use Prim.Native.Nat.{_<_};
-ghost use Rattle.paw.specs.Answers.{refusalWord, layoutWord, checkedWord, givenWord, startOf, verdictWord, loadedWord, packedNumber};
+ghost use Rattle.answers.specs.Answers.{refusalWord, layoutWord, checkedWord, givenWord, startOf, verdictWord, loadedWord, packedNumber};
 
 // A refusal's number, and its place above it.
-pub(crate) fn refusal_word(r: Refusal) -> u64
+fn refusal_word(r: Refusal) -> u64
     ensures { λ w. ⌜ w ≡ refusalWord r ⌝ }
 {
     let place = r.place;
@@ -20,7 +20,7 @@ pub(crate) fn refusal_word(r: Refusal) -> u64
 }
 
 // The lengths of a program that passed.
-pub(crate) fn layout_word(layout: Layout) -> u64
+fn layout_word(layout: Layout) -> u64
     ensures { λ w. ⌜ w ≡ layoutWord layout ⌝ }
 {
     (layout.code_bytes as u64) * 0x10000
@@ -28,7 +28,7 @@ pub(crate) fn layout_word(layout: Layout) -> u64
         + (layout.window_length as u64) * 0x1000000000000
 }
 
-pub(crate) fn checked_word(answer: Checked) -> u64
+pub fn checked_word(answer: Checked) -> u64
     ensures { λ w. ⌜ w ≡ checkedWord answer ⌝ }
 {
     match answer {
@@ -38,7 +38,7 @@ pub(crate) fn checked_word(answer: Checked) -> u64
 }
 
 // A block's start, and its length above it.
-pub(crate) fn given_word(answer: Given) -> u64
+pub fn given_word(answer: Given) -> u64
     requires { ⌜ startOf answer < 0x10000 ⌝ }
     ensures { λ w. ⌜ w ≡ givenWord answer ⌝ }
 {
@@ -49,7 +49,7 @@ pub(crate) fn given_word(answer: Given) -> u64
     }
 }
 
-pub(crate) fn verdict_word(answer: Verdict) -> u64
+pub fn verdict_word(answer: Verdict) -> u64
     ensures { λ w. ⌜ w ≡ verdictWord answer ⌝ }
 {
     match answer {
@@ -58,7 +58,7 @@ pub(crate) fn verdict_word(answer: Verdict) -> u64
     }
 }
 
-pub(crate) fn loaded_word(answer: Loaded) -> u64
+pub fn loaded_word(answer: Loaded) -> u64
     ensures { λ w. ⌜ w ≡ loadedWord answer ⌝ }
 {
     match answer {
@@ -67,7 +67,7 @@ pub(crate) fn loaded_word(answer: Loaded) -> u64
     }
 }
 
-pub(crate) fn packed_number(answer: Packed) -> u32
+pub fn packed_number(answer: Packed) -> u32
     ensures { λ n. ⌜ n ≡ packedNumber answer ⌝ }
 {
     match answer {

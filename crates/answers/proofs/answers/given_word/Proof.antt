@@ -3,9 +3,9 @@ use mathlib.Core.Path.{_≡_, sym, ap, subst, _∙_}
 use Prim.Native.Nat.{ℕ, _<_}
 use native.Mathlib.Omega.{arith}
 use borrow.Author.Needs.{needs}
-use Rattle.paw.specs.Answers.{givenWord, startOf}
-use Rattle.paw.proofs.answers.given_word.Statement.{statement}
-use Rattle.paw.proofs.answers.given_word.Tie as tie
+use Rattle.answers.specs.Answers.{givenWord, startOf}
+use Rattle.answers.proofs.answers.given_word.Statement.{statement}
+use Rattle.answers.proofs.answers.given_word.Tie as tie
 
 below : (c : tie.After-known-told2) → c .before .answer2 .given .0 .0 < 0x10000
 below c =
