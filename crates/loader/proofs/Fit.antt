@@ -14,7 +14,7 @@ use Rattle.image.specs.declared.checker.Layout.{Layout}
 use Rattle.verifier.specs.Verify.{verifyOf}
 use Rattle.verifier.specs.declared.verifier.Verdict.the-variants.{Fit}
 use Rattle.verifier.proofs.Accepted.{count-is}
-use Rattle.verifier_laws.proofs.Verdict.{fit-checked}
+use Rattle.verifier.proofs.Fit.{fit-checked}
 use Rattle.loader.specs.Copy.{withCode, cleared}
 use Rattle.loader.specs.Load.{loadedMemory}
 use Rattle.loader.proofs.Loaded.{load-is}

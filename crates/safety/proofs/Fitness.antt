@@ -11,7 +11,8 @@ use Rattle.targets.specs.Targets.{goesTo, targeted}
 use Rattle.verifier.specs.Verify.{verifyOf}
 use Rattle.verifier.specs.declared.verifier.Verdict.the-variants.{Fit}
 use Rattle.verifier_laws.proofs.Targets.{goes-targeted}
-use Rattle.verifier_laws.proofs.Verdict.{fit-checked, fit-passes}
+use Rattle.verifier.proofs.Fit.{fit-checked}
+use Rattle.verifier_laws.proofs.Verdict.{fit-passes}
 use Rattle.verifier_laws.specs.Passes.{Passes}
 
 pub record FitCode (code : List ℕ) (layout : Layout) : Type 0 where

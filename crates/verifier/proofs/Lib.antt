@@ -1,4 +1,5 @@
 pub mod Accepted
+pub mod Fit
 pub mod Jumps
 pub mod Marking
 pub mod Memory

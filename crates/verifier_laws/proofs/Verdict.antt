@@ -22,6 +22,7 @@ use Rattle.checks.specs.Questions.{halfwordChecks}
 use Rattle.verifier.specs.Verify.{valuesAt, checksAt, codeChecks, verdictAs, verifyCode, verifyChecked, verifyOf}
 use Rattle.verifier.specs.declared.verifier.Verdict.the-variants.{Fit, Refused}
 use Rattle.verifier.proofs.Walk.{refusal, fit}
+use Rattle.verifier.proofs.Fit.{code-fit, checked-fit, fit-checked}
 use Rattle.verifier_laws.specs.Passes.{Passes}
 use Rattle.verifier_laws.specs.Claims.{PassesExactly, RefusedInCode, RefusesExactly}
 
@@ -78,17 +79,9 @@ module _ (code : List ℕ) (layout : Layout) where
 
   -- ---- the verdict on the code
 
-  fit-answer : (said : Layout) (a : Answer) → verdictAs layout a ≡ Fit said → (a ≡ answer.Pass) × (layout ≡ said)
-  fit-answer said answer.Pass e = (refl, cc)
-  fit-answer said (answer.Refused r) e = let z : _≡_ {A = ℕ} 0 1 = cc in absurd (omega arith)
-
   refused-answer : (r : Refusal) (a : Answer) → verdictAs layout a ≡ Refused r → a ≡ answer.Refused r
   refused-answer r answer.Pass e = let z : _≡_ {A = ℕ} 0 1 = cc in absurd (omega arith)
   refused-answer r (answer.Refused s) e = cc
-
-  code-fit : (said : Layout) → verifyCode code layout ≡ Fit said → (firstNo (codeChecks code layout (length code)) ≡ answer.Pass) × (layout ≡ said)
-  unfolding verifyCode
-  code-fit said e = fit-answer said (firstNo (codeChecks code layout (length code))) e
 
   code-refused : (r : Refusal) → verifyCode code layout ≡ Refused r → firstNo (codeChecks code layout (length code)) ≡ answer.Refused r
   unfolding verifyCode
@@ -97,23 +90,12 @@ module _ (code : List ℕ) (layout : Layout) where
 -- ---- the file
 
 module _ (file : List ℕ) where
-  checked-fit : (layout : Layout) (d : Checked) → verifyChecked file d ≡ Fit layout → (d ≡ checked.Valid layout) × (verifyCode (codeOf file) layout ≡ Fit layout)
-  checked-fit layout (checked.Valid said) e =
-      let q : said ≡ layout = code-fit (codeOf file) said layout e .1 in
-      (ap checked.Valid q, ap (verifyCode (codeOf file)) (sym q) ∙ e)
-  checked-fit layout (checked.Refused r) e = let z : _≡_ {A = ℕ} 0 1 = cc in absurd (omega arith)
-
   module _ (layout : Layout) where
-    -- a fit file has passed checks 2 to 8
-    pub fit-checked : verifyOf file ≡ Fit layout → checkOf file ≡ checked.Valid layout
-    unfolding verifyOf
-    fit-checked e = checked-fit layout (checkOf file) e .0
-
-    -- and each instruction of its code passes checks 9 to 14
+    -- each instruction of a fit file's code passes checks 9 to 14
     pub fit-passes : verifyOf file ≡ Fit layout → (i : ℕ) → i < length (codeOf file) → Passes (codeOf file) layout i
     unfolding verifyOf
     fit-passes e i h =
-        below-passes (codeOf file) layout (length (codeOf file)) i (code-fit (codeOf file) layout layout (checked-fit layout (checkOf file) e .1) .0) h
+        below-passes (codeOf file) layout (length (codeOf file)) i (code-fit (codeOf file) layout layout (checked-fit file layout (checkOf file) e .1) .0) h
 
     -- and there is no more to it
     passes-fit : checkOf file ≡ checked.Valid layout → ((i : ℕ) → i < length (codeOf file) → Passes (codeOf file) layout i) → verifyOf file ≡ Fit layout
