@@ -1,8 +1,8 @@
 // The flags that are held, and what branches ask of them.
 use super::control::Control;
-ghost use mathlib.Core.Bool.{not, _&&_, Bool·beq};
+ghost use mathlib.Core.Bool.{_&&_};
 ghost use mathlib.Core.Path.{_≡_};
-ghost use Rattle.alu.specs.Alu.{signsDiffer};
+ghost use Rattle.alu.specs.Alu.{signsDiffer, conditionOf};
 ghost use Rattle.alu.specs.Control.{flagsIn};
 
 // Whether two numbers have different signs.
@@ -43,23 +43,23 @@ pub fn is_overflow(k: Control) -> bool
     both(signs_differ(k.a, low), signs_differ(k.b, low))
 }
 
-// Unsigned: above.
+// Condition hi, unsigned: above.
 pub fn is_higher(k: Control) -> bool
-    ensures { λ r. ⌜ r ≡ (flagsIn k .c && not (flagsIn k .z)) ⌝ }
+    ensures { λ r. ⌜ r ≡ conditionOf 8 (flagsIn k) ⌝ }
 {
     both(is_carry(k), !is_zero(k))
 }
 
-// Signed: below.
+// Condition lt, signed: below.
 pub fn is_less(k: Control) -> bool
-    ensures { λ r. ⌜ r ≡ not (Bool·beq (flagsIn k .n) (flagsIn k .v)) ⌝ }
+    ensures { λ r. ⌜ r ≡ conditionOf 11 (flagsIn k) ⌝ }
 {
     is_negative(k) != is_overflow(k)
 }
 
-// Signed: above.
+// Condition gt, signed: above.
 pub fn is_greater(k: Control) -> bool
-    ensures { λ r. ⌜ r ≡ (not (flagsIn k .z) && Bool·beq (flagsIn k .n) (flagsIn k .v)) ⌝ }
+    ensures { λ r. ⌜ r ≡ conditionOf 12 (flagsIn k) ⌝ }
 {
     both(!is_zero(k), !is_less(k))
 }

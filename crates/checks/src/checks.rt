@@ -3,20 +3,17 @@ use domain::Value;
 use image::Layout;
 use units::ByteAddress;
 ghost use mathlib.Core.Path.{_≡_};
-ghost use mathlib.Core.Bool.{cond, not};
 ghost use Prim.Native.Nat.{_<_};
-ghost use lib.Dec.{eqb, ltb};
 ghost use Rattle.units.specs.Field.{field};
 ghost use Rattle.checks.specs.Access.{halfwordAccess, byteAccess};
-ghost use Rattle.checks.specs.State.{pcRegister};
-ghost use Rattle.checks.specs.Numbers.{accessNumber};
+ghost use Rattle.checks.specs.Numbers.{accessNumber, writeNumber, targetNumber, lastNumber};
 
 // R15 is the PC.
 pub const PC: u8 = 15;
 
 // Check 14 of the last halfword of a code.
 pub fn check_last(h: u16) -> u8
-    ensures { λ r. ⌜ r ≡ cond (eqb h 0) 0 14 ⌝ }
+    ensures { λ r. ⌜ r ≡ lastNumber h ⌝ }
 {
     if h != 0 {
         return 14;
@@ -65,14 +62,14 @@ pub fn check_byte(base: Value, layout: Layout, h: u16) -> u8
 
 // Check 12 of an instruction that writes Rd.
 pub fn check_write(rd: u8) -> u8
-    ensures { λ r. ⌜ r ≡ cond (not (eqb rd pcRegister)) 0 12 ⌝ }
+    ensures { λ r. ⌜ r ≡ writeNumber rd ⌝ }
 {
     if rd == PC { 12 } else { 0 }
 }
 
 // Check 13 of a branch that goes to an address.
 pub fn check_target(target: ByteAddress, layout: Layout) -> u8
-    ensures { λ r. ⌜ r ≡ cond (ltb (target .0) (layout .«code_bytes»)) 0 13 ⌝ }
+    ensures { λ r. ⌜ r ≡ targetNumber layout target ⌝ }
 {
     if target.0 < layout.code_bytes { 0 } else { 13 }
 }
