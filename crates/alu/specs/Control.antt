@@ -1,6 +1,5 @@
 -- How the code holds flags: as the numbers that they speak of. Only contracts of functions that are no entry points speak of it.
 use mathlib.Core.Bool.{_&&_}
-use mathlib.Core.Path.{_≡_}
 use Prim.Native.Nat.{_%_}
 use lib.Dec.{eqb, leb}
 use Rattle.alu.specs.declared.control.Control.{Control}
@@ -23,8 +22,3 @@ flagsIn k =
 -- and the flags by themselves
 abbrev pub flagsOf : Status → Flags
 flagsOf s = record { n = s .n; z = s .z; c = s .c; v = s .v }
-
--- other flags at the same PC
-pub record Flagged (g k : Control) (f : Flags) : Type 0 where
-  pub pc : g .pc ≡ k .pc
-  pub flags : flagsIn g ≡ f

@@ -6,11 +6,11 @@ ghost use mathlib.Core.Path.{_≡_};
 ghost use Prim.Native.Nat.{_%_, _<_};
 ghost use lib.Dec.{leb};
 ghost use Rattle.alu.specs.Alu.{resultFlags, sumOf, sumFlags, differenceOf, differenceFlags, shiftedOf, shiftOf, shiftCarry, shiftFlags};
-ghost use Rattle.alu.specs.Control.{flagsIn, Flagged};
+ghost use Rattle.alu.specs.Control.{flagsIn};
 
 // N and Z of a result.
 pub fn result_flags(k: Control, r: u16) -> Control
-    ensures { λ g. ⌜ Flagged g k (resultFlags r (flagsIn k)) ⌝ }
+    ensures { λ g. ⌜ (g .pc ≡ k .pc) × (flagsIn g ≡ resultFlags r (flagsIn k)) ⌝ }
 {
     Control {
         pc: k.pc,
@@ -37,7 +37,7 @@ pub fn difference(a: u16, b: u16) -> u16
 // The flags of a sum r of a and b.
 pub fn sum_flags(k: Control, a: u16, b: u16, r: u16) -> Control
     requires { ⌜ r ≡ sumOf a b ⌝ }
-    ensures { λ g. ⌜ Flagged g k (sumFlags a b) ⌝ }
+    ensures { λ g. ⌜ (g .pc ≡ k .pc) × (flagsIn g ≡ sumFlags a b) ⌝ }
 {
     Control {
         pc: k.pc,
@@ -52,7 +52,7 @@ pub fn sum_flags(k: Control, a: u16, b: u16, r: u16) -> Control
 // bit the other way round, and 1.
 pub fn difference_flags(k: Control, a: u16, b: u16, r: u16) -> Control
     requires { ⌜ r ≡ differenceOf a b ⌝ }
-    ensures { λ g. ⌜ Flagged g k (differenceFlags a b) ⌝ }
+    ensures { λ g. ⌜ (g .pc ≡ k .pc) × (flagsIn g ≡ differenceFlags a b) ⌝ }
 {
     Control {
         pc: k.pc,
@@ -65,7 +65,7 @@ pub fn difference_flags(k: Control, a: u16, b: u16, r: u16) -> Control
 
 // The flags of a - b, of which a comparison keeps nothing else.
 pub fn compare(k: Control, a: u16, b: u16) -> Control
-    ensures { λ g. ⌜ Flagged g k (differenceFlags a b) ⌝ }
+    ensures { λ g. ⌜ (g .pc ≡ k .pc) × (flagsIn g ≡ differenceFlags a b) ⌝ }
 {
     let r = difference(a, b);
     difference_flags(k, a, b, r)
@@ -118,7 +118,7 @@ pub(crate) fn with_carry(sum: u32, c: bool) -> u32
 // The flags of ASR's result r of a and n.
 pub fn shift_flags(k: Control, a: u16, n: u16, r: u16) -> Control
     requires { ⌜ r ≡ shiftOf a n ⌝ }
-    ensures { λ g. ⌜ Flagged g k (shiftFlags a n (flagsIn k)) ⌝ }
+    ensures { λ g. ⌜ (g .pc ≡ k .pc) × (flagsIn g ≡ shiftFlags a n (flagsIn k)) ⌝ }
 {
     let c = shift_carry(a, n, is_carry(k));
     Control {

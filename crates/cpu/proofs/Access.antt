@@ -13,7 +13,7 @@ use Rattle.cpu.specs.declared.outcome.Outcome.{Outcome}
 use Rattle.cpu.specs.declared.outcome.Outcome.the-variants.{Completed, Stopped}
 use Rattle.cpu.specs.Machine.{machine, advanced, written}
 use Rattle.cpu.specs.Step.{stepResult, ldrOf, strOf, strbOf}
-use Rattle.alu.specs.Control.{flagsIn, Flagged}
+use Rattle.alu.specs.Control.{flagsIn}
 use Rattle.cpu.specs.Held.{held, moved, Whole, Holds, Leads}
 use Rattle.cpu.proofs.Ends.{low-is, advance-holds}
 
@@ -37,7 +37,7 @@ module _ (regs memory : List ℕ) (k : Control) (offset rb rd a : ℕ) (e : Exec
   next = moved (wrap (k .pc + 2)) k
 
   advanced-holds : Holds regs next (machine (advanced (set regs 15 (k .pc))) (flagsIn k))
-  advanced-holds = advance-holds regs k next whole k (flagsIn k) refl (record { pc = refl; flags = refl })
+  advanced-holds = advance-holds regs k next whole k (flagsIn k) refl (refl, refl)
 
   module _ (address : a ≡ wrap (getD regs rb 0 + 4 * offset)) where
     pub ldr-stops : (a % 4 ≡ 0 → ⊥) → Gave e k (Stopped 20) → Leads regs e memory (ldrOf offset rb rd (held regs k) memory)

@@ -10,8 +10,12 @@ use Rattle.alu.specs.declared.control.Control.{Control}
 use Rattle.cpu.specs.declared.machine.Machine.{Machine}
 use Rattle.alu.specs.Flags.{Flags}
 use Rattle.cpu.specs.Machine.{machine, advanced, written}
-use Rattle.alu.specs.Control.{flagsIn, Flagged}
+use Rattle.alu.specs.Control.{flagsIn}
 use Rattle.cpu.specs.Held.{moved, Whole, Holds}
+
+-- other flags at the same PC
+abbrev pub Flagged : Control → Control → Flags → Type 0
+Flagged g k f = (g .pc ≡ k .pc) × (flagsIn g ≡ f)
 
 module _ (regs : List ℕ) (pc : ℕ) (whole : Whole regs) where
   -- the PC is read back
@@ -44,8 +48,8 @@ module _ (regs : List ℕ) (k k′ : Control) (whole : Whole regs) where
       record {
         machine =
             rw is
-            (ap (λ (l : List ℕ). machine l (flagsIn g)) (rw (flagged .pc) (moved-on regs (k .pc) whole))
-            ∙ ap (λ (x : Flags). machine (advanced (set regs 15 (k .pc))) x) (flagged .flags));
+            (ap (λ (l : List ℕ). machine l (flagsIn g)) (rw (flagged .0) (moved-on regs (k .pc) whole))
+            ∙ ap (λ (x : Flags). machine (advanced (set regs 15 (k .pc))) x) (flagged .1));
         whole = whole;
       }
 
@@ -75,7 +79,7 @@ flags-as regs l rd x k′ g k f flagged holds =
     record {
       machine =
           holds .machine
-          ∙ (ap (λ (pc : ℕ). machine (written (set l 15 pc) rd x) (flagsIn g)) (flagged .pc)
-          ∙ ap (λ (y : Flags). machine (written (set l 15 (k .pc)) rd x) y) (flagged .flags));
+          ∙ (ap (λ (pc : ℕ). machine (written (set l 15 pc) rd x) (flagsIn g)) (flagged .0)
+          ∙ ap (λ (y : Flags). machine (written (set l 15 (k .pc)) rd x) y) (flagged .1));
       whole = holds .whole;
     }

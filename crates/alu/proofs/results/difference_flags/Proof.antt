@@ -6,7 +6,7 @@ use Rattle.alu.proofs.results.difference_flags.Statement.{statement}
 use Rattle.alu.proofs.results.difference_flags.Tie as tie
 
 returns : tie.Need-returns
-returns c = record { pc = refl; flags = difference-flags (c .args .a) (c .args .b) (c .args .r) (search needs) (search needs) (search needs) (c .pre) }
+returns c = (refl, difference-flags (c .args .a) (c .args .b) (c .args .r) (search needs) (search needs) (search needs) (c .pre))
 
 pub difference-flags-spec : {M : Type 1} → statement M
 difference-flags-spec =

@@ -6,7 +6,7 @@ use Rattle.alu.proofs.results.result_flags.Statement.{statement}
 use Rattle.alu.proofs.results.result_flags.Tie as tie
 
 returns : tie.Need-returns
-returns c = record { pc = refl; flags = result-are (c .args .r) (c .args .r) (search needs) refl refl refl }
+returns c = (refl, result-are (c .args .r) (c .args .r) (search needs) refl refl refl)
 
 pub result-flags-spec : {M : Type 1} → statement M
 result-flags-spec =

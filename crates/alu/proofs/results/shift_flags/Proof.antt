@@ -11,14 +11,12 @@ use Rattle.alu.proofs.results.shift_flags.Tie as tie
 returns : tie.Need-returns
 returns c =
     let m = c .before .before .before in
-    let sum = c .with-carry .ensures in
-    record {
-      pc = refl;
-      flags =
-          result-are (m .args .r) (shiftOf (m .args .a) (m .args .n)) (search needs) (m .pre)
+    let sum = c .with-carry .ensures in (
+      refl,
+      result-are (m .args .r) (shiftOf (m .args .a) (m .args .n)) (search needs) (m .pre)
           (sum .0 ∙ (c .before .shift-carry .ensures ∙ ap (λ (t : Bool). shiftCarry (m .args .a) (m .args .n) t) (c .before .before .is-carry .ensures)))
-          (ap (λ (low : ℕ). signsDiffer (m .args .k .a) low && signsDiffer (m .args .k .b) low) (sum .1));
-    }
+          (ap (λ (low : ℕ). signsDiffer (m .args .k .a) low && signsDiffer (m .args .k .b) low) (sum .1)),
+    )
 
 pub shift-flags-spec : {M : Type 1} → statement M
 shift-flags-spec =

@@ -7,7 +7,7 @@ use Rattle.alu.proofs.results.sum_flags.Statement.{statement}
 use Rattle.alu.proofs.results.sum_flags.Tie as tie
 
 returns : tie.Need-returns
-returns c = record { pc = refl; flags = result-are (c .args .r) (sumOf (c .args .a) (c .args .b)) (search needs) (c .pre) refl refl }
+returns c = (refl, result-are (c .args .r) (sumOf (c .args .a) (c .args .b)) (search needs) (c .pre) refl refl)
 
 pub sum-flags-spec : {M : Type 1} → statement M
 sum-flags-spec =
