@@ -46,6 +46,11 @@ uint16_t random_instruction(uint32_t any_in)
     }
 }
 
+uint16_t random_halt(void)
+{
+    return (uint16_t)random_below(256);
+}
+
 bool writes_pc(uint16_t h)
 {
     return (h >> 8 == 0x44 || h >> 8 == 0x46) && (h & 0x87) == 0x87;
@@ -132,5 +137,6 @@ struct paw_machine random_machine(void)
     m.z = flags >> 1 & 1;
     m.c = flags >> 2 & 1;
     m.v = flags >> 3 & 1;
+    m.note = (uint8_t)(flags >> 8);
     return m;
 }

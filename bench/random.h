@@ -20,6 +20,9 @@ static inline bool once_in(uint32_t n)
 /* An instruction; but once in `any_in` times a halfword that may be none (never if that is 0). */
 uint16_t random_instruction(uint32_t any_in);
 
+/* HALT with any note. */
+uint16_t random_halt(void);
+
 /* Does the halfword write R15? */
 bool writes_pc(uint16_t h);
 
@@ -36,7 +39,7 @@ static inline uint32_t window_behind(uint32_t n)
     return (2 * n + 255) / 256 * 256;
 }
 
-/* Registers of all sizes, any flags, and a PC that is often one of the special ones. */
+/* Registers of all sizes, any flags and note, and a PC that is often one of the special ones. */
 struct paw_machine random_machine(void);
 
 #endif

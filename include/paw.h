@@ -30,10 +30,10 @@ extern "C" {
 
 /* The version of this header; paw_version tells that of the library. */
 #define PAW_VERSION_MAJOR 0
-#define PAW_VERSION_MINOR 1
+#define PAW_VERSION_MINOR 2
 #define PAW_VERSION_PATCH 0
 
-/* The version as one number, larger for a later one, and as text, "0.1.0". */
+/* The version as one number, larger for a later one, and as text, "0.2.0". */
 #define PAW_VERSION (PAW_VERSION_MAJOR * 65536u + PAW_VERSION_MINOR * 256u + PAW_VERSION_PATCH)
 #define PAW_VERSION_STRING                                                                         \
     PAW_QUOTE(PAW_VERSION_MAJOR) "." PAW_QUOTE(PAW_VERSION_MINOR) "." PAW_QUOTE(PAW_VERSION_PATCH)
@@ -67,7 +67,7 @@ enum paw_number {
     PAW_MISALIGNED = 11,    /* the address of a halfword might not be a multiple of 4 */
     PAW_WRITES_PC = 12,     /* the instruction writes R15 */
     PAW_BRANCH_TARGET = 13, /* the branch leaves the code */
-    PAW_LAST_NOT_HALT = 14, /* the last instruction is not HALT */
+    PAW_LAST_NOT_HALT = 14, /* the last instruction is not HALT, whose note may be any */
     PAW_CODE_LENGTH = 15,   /* the code to pack is not 1 to PAW_MAX_CODE halfwords long */
     PAW_OUTPUT_LENGTH = 16, /* the output is not exactly the blocks that the code needs */
     PAW_FIELDS = 17         /* the fields form no instruction */
@@ -84,7 +84,7 @@ enum paw_ending {
     PAW_STOP_ODD_PC = 18,     /* the program counter is odd */
     PAW_STOP_UNDEFINED = 19,  /* the halfword at the program counter is no instruction */
     PAW_STOP_MISALIGNED = 20, /* a halfword load or store at an address that 4 does not divide */
-    PAW_HALT = 255            /* the program counter is at HALT */
+    PAW_HALT = 255            /* the program counter is at HALT; the machine has its note */
 };
 
 /* What a number says, in words for people. 0 is "ok"; for a run see paw_run_text. */
@@ -153,7 +153,7 @@ enum paw_kind {
                                address, rounded down to a multiple of 4 */
     PAW_KIND_BRANCH = 17,   /* condition, offset, a signed byte that counts instructions, 2 bytes
                                each, from the branch itself */
-    PAW_KIND_HALT = 18      /* no fields */
+    PAW_KIND_HALT = 18      /* note, 0 to 255: the halfwords 0x0000 to 0x00FF */
 };
 
 /* The manual's name of a kind, without the condition of a branch; "undefined" for no kind. */
@@ -260,30 +260,43 @@ static inline uint16_t paw_encoded_halfword(uint32_t answer)
 
 /* The machine ------------------------------------------------------------------------------ */
 
-/* Registers and flags. A program starts with R15 at 0; everything else may be anything. */
+/*
+ * Registers, flags and note. A program starts with R15 at 0; everything else may be anything.
+ *
+ * The note is a byte by which a program says why it ended: the low byte of the HALT that it came
+ * to. A step or a run that answers PAW_HALT sets it, every time; nothing else changes it. It stays
+ * after a completed step, a stop, a refusal, and a spent budget, even if HALT would have been next.
+ * So it tells something of a program only once that has halted.
+ *
+ * The last byte of the record, behind the note, is nobody's: it may be anything before a call and
+ * after it. Whoever compares two machines leaves it out.
+ */
 struct paw_machine {
     uint16_t regs[16]; /* R0 to R15; R15 is the program counter */
     bool n;            /* negative */
     bool z;            /* zero */
     bool c;            /* carry, or no borrow */
     bool v;            /* signed overflow */
+    uint8_t note;      /* of the HALT that ended a step or a run last */
 };
 
-PAW_STATIC_ASSERT(sizeof(struct paw_machine) == 36, "the library's layout has no padding");
+PAW_STATIC_ASSERT(sizeof(struct paw_machine) == 38, "one unused byte stands behind the note");
 PAW_STATIC_ASSERT(offsetof(struct paw_machine, n) == 32, "the flags stand behind the registers");
 PAW_STATIC_ASSERT(offsetof(struct paw_machine, v) == 35, "a flag is one byte");
+PAW_STATIC_ASSERT(offsetof(struct paw_machine, note) == 36, "the note stands behind the flags");
 
 /*
  * Executes the instruction at the program counter, on this very machine and memory. Answers
  * PAW_COMPLETED, PAW_HALT, PAW_STOP_..., or PAW_MEMORY_SIZE; after all but PAW_COMPLETED, machine
- * and memory are as they were.
+ * and memory are as they were, but that PAW_HALT sets the note.
  */
 uint32_t paw_step(struct paw_machine *machine, uint8_t *memory, size_t memory_len);
 
 /*
  * Executes up to `budget` instructions, on this very machine and memory. Answers how the run
  * ended and how many steps were completed; the two functions below take the answer apart. A run
- * that has completed `budget` steps, be it none, is PAW_SPENT, whatever the next one would do.
+ * that has completed `budget` steps, be it none, is PAW_SPENT, whatever the next one would do. One
+ * that answers PAW_HALT has come to a HALT with some of the budget left, and has set the note.
  */
 uint64_t paw_run(struct paw_machine *machine, uint8_t *memory, size_t memory_len, uint32_t budget);
 

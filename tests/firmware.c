@@ -1,6 +1,6 @@
 /*
  * The library as firmware uses it, through paw.h: the sample program P is packed, checked,
- * verified, loaded and run. It is C11 and C++11 at once.
+ * verified, loaded and run, and programs say by notes how they ended. It is C11 and C++11 at once.
  *
  *     cc -std=c11 -Wall -Wextra -Werror -Iinclude tests/firmware.c target/staticlib/libpaw.a
  */
@@ -19,13 +19,15 @@
 #define ALWAYS _Static_assert
 #endif
 
-ALWAYS(sizeof(struct paw_machine) == 36, "size");
+ALWAYS(sizeof(struct paw_machine) == 38, "size");
 ALWAYS(ALIGNMENT_OF(struct paw_machine) == 2, "alignment");
 ALWAYS(offsetof(struct paw_machine, regs) == 0, "regs");
 ALWAYS(offsetof(struct paw_machine, n) == 32, "n");
 ALWAYS(offsetof(struct paw_machine, z) == 33, "z");
 ALWAYS(offsetof(struct paw_machine, c) == 34, "c");
 ALWAYS(offsetof(struct paw_machine, v) == 35, "v");
+ALWAYS(offsetof(struct paw_machine, note) == 36, "note");
+ALWAYS(sizeof(((struct paw_machine *)0)->note) == 1, "a byte");
 
 static int failures;
 
@@ -62,6 +64,24 @@ static bool all_are(const uint8_t *bytes, size_t len, uint8_t value)
         }
     }
     return true;
+}
+
+/* Are registers and flags the same? The note may differ. */
+static bool same_but_note(const struct paw_machine *a, const struct paw_machine *b)
+{
+    return memcmp(a, b, offsetof(struct paw_machine, note)) == 0;
+}
+
+/* Are registers, flags and note the same? */
+static bool same_machine(const struct paw_machine *a, const struct paw_machine *b)
+{
+    return same_but_note(a, b) && a->note == b->note;
+}
+
+static void put_halfword(size_t address, uint32_t halfword)
+{
+    memory[address] = (uint8_t)halfword;
+    memory[address + 1] = (uint8_t)(halfword >> 8);
 }
 
 static uint64_t layout_word(uint64_t code_bytes, uint64_t start, uint64_t length)
@@ -140,7 +160,7 @@ static void test_branching(void)
     memory[1] = 0xD0 | PAW_GT;
     for (unsigned flags = 0; flags < 16; flags++) {
         struct paw_machine machine = {{0}, (flags & 8) != 0, (flags & 4) != 0, (flags & 2) != 0,
-                                      (flags & 1) != 0};
+                                      (flags & 1) != 0, 0};
         bool taken = !machine.z && machine.n == machine.v;
         EXPECT(paw_step(&machine, memory, sizeof memory) == PAW_COMPLETED);
         EXPECT(machine.regs[15] == (taken ? 4 : 2));
@@ -163,12 +183,11 @@ static void test_offsets(void)
 {
     static const uint8_t kinds[] = {PAW_KIND_STR, PAW_KIND_STRB};
     for (size_t i = 0; i < sizeof kinds; i++) {
-        struct paw_machine machine = {{0xBEEF, 0x1000}, false, false, false, false};
+        struct paw_machine machine = {{0xBEEF, 0x1000}, false, false, false, false, 0};
         uint16_t halfword = paw_encoded_halfword(paw_encode(paw_word(kinds[i], 31, 1, 0)));
         size_t address = 0x1000 + (kinds[i] == PAW_KIND_STR ? 4 * 31 : 31);
         memset(memory, 0, sizeof memory);
-        memory[0] = (uint8_t)halfword;
-        memory[1] = (uint8_t)(halfword >> 8);
+        put_halfword(0, halfword);
         EXPECT(paw_step(&machine, memory, sizeof memory) == PAW_COMPLETED);
         EXPECT(memory[address] == 0xEF);
         EXPECT(memory[address + 1] == (kinds[i] == PAW_KIND_STR ? 0xBE : 0));
@@ -182,11 +201,38 @@ static void test_instructions(void)
     EXPECT(paw_word_field(word, 0) == 0 && paw_word_field(word, 1) == 0);
     EXPECT(paw_word_field(word, 2) == 1);
     EXPECT(word == paw_word(PAW_KIND_STR, 0, 0, 1));
-    EXPECT(paw_decode(0x0001) == PAW_KIND_NONE);
+    EXPECT(paw_decode(0x0100) == PAW_KIND_NONE);
 
     uint32_t encoded = paw_encode(paw_word(PAW_KIND_MOV_IMM, 1, 252, 0));
     EXPECT(paw_encoded_number(encoded) == PAW_OK && paw_encoded_halfword(encoded) == 0x21FC);
     EXPECT(paw_encode(paw_word(PAW_KIND_MOV_IMM, 8, 252, 0)) == PAW_FIELDS);
+}
+
+/* The note is HALT's only field; what stands for fields that it does not have is not looked at. */
+static void test_halts(void)
+{
+    for (uint32_t halfword = 0; halfword < 0x2000; halfword++) {
+        uint8_t note = (uint8_t)halfword;
+        uint32_t word = paw_word(PAW_KIND_HALT, note, 0, 0), none = PAW_KIND_NONE;
+        EXPECT(paw_decode((uint16_t)halfword) == (halfword <= 0x00FF ? word : none));
+        EXPECT(paw_encode(word) == (uint32_t)note << 16);
+        EXPECT(paw_encode(word | 0xFFFF) == (uint32_t)note << 16);
+    }
+    EXPECT(paw_word_field(paw_decode(0x00FF), 0) == 0xFF);
+}
+
+/* How many halfwords are instructions, each of which its fields give back. */
+static void test_defined(void)
+{
+    unsigned defined = 0;
+    for (uint32_t halfword = 0; halfword <= 0xFFFF; halfword++) {
+        uint32_t word = paw_decode((uint16_t)halfword);
+        if (word != PAW_KIND_NONE) {
+            defined++;
+            EXPECT(paw_encode(word) == halfword << 16);
+        }
+    }
+    EXPECT(defined == 19264);
 }
 
 static void test_packing(void)
@@ -257,6 +303,25 @@ static void test_verifying(void)
     EXPECT(answer == (10 | 10 << 16));
 }
 
+/* P with another last halfword: a HALT with any note is fit, the first halfword behind them not. */
+static void test_verifying_notes(void)
+{
+    static uint8_t noted[PAW_BLOCK_BYTES];
+    uint16_t changed[CODE_LEN];
+    memcpy(changed, code, sizeof code);
+    for (uint16_t last = 0; last <= 0x0100; last++) {
+        changed[CODE_LEN - 1] = last;
+        EXPECT(paw_pack(changed, CODE_LEN, WINDOW_START, WINDOW_BYTES, noted, sizeof noted) ==
+               PAW_OK);
+        EXPECT(paw_check(noted, sizeof noted) == layout_word(14, 256, 256));
+        uint64_t answer = paw_verify(noted, sizeof noted);
+        EXPECT(answer == (last <= 0x00FF ? layout_word(14, 256, 256) : (9 | 12 << 16)));
+    }
+    changed[CODE_LEN - 1] = 0x2000; /* MOV R0, #0 */
+    EXPECT(paw_pack(changed, CODE_LEN, WINDOW_START, WINDOW_BYTES, noted, sizeof noted) == PAW_OK);
+    EXPECT(paw_verify(noted, sizeof noted) == (14 | 12 << 16));
+}
+
 static void test_loading(void)
 {
     memset(memory, 0xEE, sizeof memory);
@@ -276,7 +341,7 @@ static void test_loading(void)
 /* 0xBEEF masked with 252 is 236, and 256 more are 492. */
 static void test_running(void)
 {
-    struct paw_machine machine = {{0xBEEF}, true, true, true, true};
+    struct paw_machine machine = {{0xBEEF}, true, true, true, true, 0xA5};
     memset(memory + WINDOW_START, 0xA5, WINDOW_BYTES); /* shows both bytes of the store */
     memcpy(before, memory, sizeof memory);
 
@@ -293,6 +358,7 @@ static void test_running(void)
     EXPECT(strcmp(paw_run_text(spent), "the budget is spent") == 0);
     EXPECT(machine.regs[0] == 236 && machine.regs[2] == 256 && machine.regs[15] == 8);
     EXPECT(memcmp(memory, before, sizeof memory) == 0);
+    EXPECT(machine.note == 0xA5);
 
     uint64_t halted = paw_run(&machine, memory, sizeof memory, UINT32_MAX);
     EXPECT(paw_run_number(halted) == PAW_HALT && paw_run_steps(halted) == 2);
@@ -300,6 +366,7 @@ static void test_running(void)
     EXPECT(machine.regs[0] == 492 && machine.regs[1] == 252 && machine.regs[2] == 256);
     EXPECT(machine.regs[3] == 0 && machine.regs[14] == 0 && machine.regs[15] == 12);
     EXPECT(!machine.n && !machine.z && !machine.c && !machine.v);
+    EXPECT(machine.note == 0);
     EXPECT(paw_step(&machine, memory, sizeof memory) == PAW_HALT);
     EXPECT(machine.regs[15] == 12);
 
@@ -310,7 +377,7 @@ static void test_running(void)
 
 static void test_stops(void)
 {
-    struct paw_machine machine = {{2}, false, false, false, false};
+    struct paw_machine machine = {{2}, false, false, false, false, 0xA5};
     machine.regs[15] = 1;
     memcpy(before, memory, sizeof memory);
     EXPECT(paw_step(&machine, memory, sizeof memory) == PAW_STOP_ODD_PC);
@@ -319,8 +386,144 @@ static void test_stops(void)
     machine.regs[15] = 10; /* STR R1, [R0, #0], with 2 in R0 */
     EXPECT(paw_step(&machine, memory, sizeof memory) == PAW_STOP_MISALIGNED);
     EXPECT(paw_run(&machine, memory, sizeof memory, 5) == PAW_STOP_MISALIGNED);
-    EXPECT(machine.regs[0] == 2 && machine.regs[15] == 10);
+    EXPECT(machine.regs[0] == 2 && machine.regs[15] == 10 && machine.note == 0xA5);
     EXPECT(memcmp(memory, before, sizeof memory) == 0);
+}
+
+enum { SOMEWHERE = 0x4000 };
+
+/* A machine with all registers the same but for the PC, which is SOMEWHERE, and with that note. */
+static struct paw_machine machine_of(uint16_t value, uint8_t note)
+{
+    struct paw_machine machine = {{0}, true, false, true, false, note};
+    for (size_t r = 0; r < 15; r++) {
+        machine.regs[r] = value;
+    }
+    machine.regs[15] = SOMEWHERE;
+    return machine;
+}
+
+/* A step at HALT takes its note, over any other and over its own, and changes nothing else. */
+static void test_notes_of_steps(void)
+{
+    memset(memory, 0xEE, sizeof memory);
+    for (unsigned note = 0; note < 256; note++) {
+        put_halfword(SOMEWHERE, note);
+        memcpy(before, memory, sizeof memory);
+        const uint8_t earlier[] = {0, 255, (uint8_t)note, (uint8_t)~note};
+        for (size_t i = 0; i < sizeof earlier; i++) {
+            const struct paw_machine start = machine_of(0xBEEF, earlier[i]);
+            struct paw_machine machine = start;
+            EXPECT(paw_step(&machine, memory, sizeof memory) == PAW_HALT);
+            EXPECT(machine.note == note && same_but_note(&machine, &start));
+        }
+        EXPECT(memcmp(memory, before, sizeof memory) == 0);
+    }
+}
+
+/* A run takes the note once it is at HALT with budget left, and a second run takes it again. */
+static void test_notes_of_runs(void)
+{
+    for (unsigned note = 0; note < 256; note++) {
+        const uint8_t earlier = (uint8_t)~note;
+        struct paw_machine machine = machine_of(0xBEEF, earlier);
+        put_halfword(SOMEWHERE, 0x2007); /* MOV R0, #7 */
+        put_halfword(SOMEWHERE + 2, note);
+
+        EXPECT(paw_run(&machine, memory, sizeof memory, 0) == PAW_SPENT);
+        EXPECT(machine.note == earlier);
+        uint64_t spent = paw_run(&machine, memory, sizeof memory, 1);
+        EXPECT(paw_run_number(spent) == PAW_SPENT && paw_run_steps(spent) == 1);
+        EXPECT(machine.note == earlier);
+
+        const struct paw_machine at_halt = machine;
+        EXPECT(machine.regs[0] == 7 && machine.regs[15] == SOMEWHERE + 2);
+        EXPECT(paw_run(&machine, memory, sizeof memory, 0) == PAW_SPENT);
+        EXPECT(same_machine(&machine, &at_halt));
+        EXPECT(paw_run(&machine, memory, sizeof memory, 1) == PAW_HALT);
+        EXPECT(machine.note == note && same_but_note(&machine, &at_halt));
+        machine.note = earlier;
+        EXPECT(paw_run(&machine, memory, sizeof memory, 1) == PAW_HALT);
+        EXPECT(machine.note == note && same_but_note(&machine, &at_halt));
+
+        machine.regs[15] = SOMEWHERE;
+        machine.note = earlier;
+        uint64_t halted = paw_run(&machine, memory, sizeof memory, 2);
+        EXPECT(paw_run_number(halted) == PAW_HALT && paw_run_steps(halted) == 1);
+        EXPECT(machine.note == note);
+    }
+}
+
+/* A step and a run of one step have this ending, and either leaves the note, whichever it is. */
+static void expect_note_left(struct paw_machine start, size_t memory_len, uint32_t ending)
+{
+    for (unsigned note = 0; note < 256; note++) {
+        start.note = (uint8_t)note;
+        struct paw_machine stepped = start, ran = start;
+        EXPECT(paw_step(&stepped, memory, memory_len) == ending);
+        EXPECT(paw_run_number(paw_run(&ran, memory, memory_len, 1)) == ending);
+        EXPECT(stepped.note == note && ran.note == note && same_machine(&stepped, &ran));
+        EXPECT(ending == PAW_COMPLETED || same_machine(&stepped, &start));
+    }
+}
+
+/* Stops and refusals leave the note, refusals at a HALT too. */
+static void test_notes_left(void)
+{
+    struct paw_machine machine = machine_of(2, 0);
+    put_halfword(SOMEWHERE, 0x6001); /* STR R1, [R0, #0] */
+    expect_note_left(machine, sizeof memory, PAW_STOP_MISALIGNED);
+    put_halfword(SOMEWHERE, 0x0100);
+    expect_note_left(machine, sizeof memory, PAW_STOP_UNDEFINED);
+    put_halfword(SOMEWHERE, 0x2007); /* MOV R0, #7 */
+    put_halfword(SOMEWHERE + 2, 0x0033);
+    expect_note_left(machine, sizeof memory, PAW_COMPLETED);
+
+    put_halfword(SOMEWHERE, 0x0033); /* HALT #51 */
+    expect_note_left(machine, sizeof memory - 1, PAW_MEMORY_SIZE);
+    expect_note_left(machine, 0, PAW_MEMORY_SIZE);
+    machine.regs[15] = SOMEWHERE + 1;
+    expect_note_left(machine, sizeof memory, PAW_STOP_ODD_PC);
+}
+
+/* Every halfword, met by a step and by a run: HALT makes the note its low byte, others leave it. */
+static void test_notes_of_halfwords(void)
+{
+    static const uint16_t values[] = {0x1000, 0x1002}; /* as addresses: 4 divides the first only */
+    for (uint32_t halfword = 0; halfword <= 0xFFFF; halfword++) {
+        for (size_t i = 0; i < sizeof values / sizeof values[0]; i++) {
+            const uint8_t earlier = (uint8_t)~halfword;
+            uint8_t note = halfword <= 0x00FF ? (uint8_t)halfword : earlier;
+            struct paw_machine stepped = machine_of(values[i], earlier), ran = stepped;
+            put_halfword(SOMEWHERE, halfword);
+            uint32_t ending = paw_step(&stepped, memory, sizeof memory);
+            EXPECT((ending == PAW_HALT) == (halfword <= 0x00FF));
+            EXPECT(paw_run_number(paw_run(&ran, memory, sizeof memory, 1)) == ending);
+            EXPECT(stepped.note == note && ran.note == note);
+        }
+    }
+}
+
+/* As samples/fit-note.hex: the note tells whether a battery has 110 tenths of a volt, read at 256. */
+static void test_two_endings(void)
+{
+    static const uint16_t battery[] = {
+        0xA240, /* ADD R2, PC, #256 */
+        0x7810, /* LDRB R0, [R2, #0] */
+        0x286E, /* CMP R0, #110 */
+        0xD202, /* BCS, over the next */
+        0x0007, /* HALT #7 */
+        0x0001, /* HALT #1 */
+    };
+    EXPECT(paw_pack(battery, 6, WINDOW_START, WINDOW_BYTES, file, sizeof file) == PAW_OK);
+    EXPECT(paw_load(file, sizeof file, memory, sizeof memory) == layout_word(12, 256, 256));
+    for (unsigned tenths = 0; tenths < 256; tenths++) {
+        struct paw_machine machine = {{0}, false, false, false, false, 0};
+        memory[WINDOW_START] = (uint8_t)tenths;
+        uint64_t answer = paw_run(&machine, memory, sizeof memory, 1000);
+        EXPECT(paw_run_number(answer) == PAW_HALT && paw_run_steps(answer) == 4);
+        EXPECT(machine.note == (tenths < 110 ? 7 : 1));
+    }
 }
 
 int main(void)
@@ -333,13 +536,21 @@ int main(void)
     test_kinds();
     test_offsets();
     test_instructions();
+    test_halts();
+    test_defined();
     test_packing();
     test_checking();
     test_reading();
     test_verifying();
+    test_verifying_notes();
     test_loading();
     test_running();
     test_stops();
+    test_notes_of_steps();
+    test_notes_of_runs();
+    test_notes_left();
+    test_notes_of_halfwords();
+    test_two_endings();
     if (failures == 0) {
         printf("firmware in " LANGUAGE ": P packs, verifies, loads and runs through paw.h\n");
     }

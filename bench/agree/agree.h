@@ -6,10 +6,11 @@
 
 void compare_runs(long cases);
 void compare_halfwords(void);
+void compare_notes(void);
 void compare_programs(void);
 void compare_steps(long cases);
 void compare_images(long cases);
-void compare_pairs(void);
+void compare_short_codes(void);
 void compare_facts(long cases);
 
 /* A memory for each engine; makers that do not run use the first ones. */

@@ -1,5 +1,6 @@
 /* Images of fit and other code, whole and damaged. */
 #include <stdio.h>
+#include <stdlib.h>
 #include <string.h>
 
 #include "agree.h"
@@ -94,9 +95,10 @@ static uint32_t write_code(bool large, uint32_t *w, uint32_t *l)
         *l = PAW_MEMORY_BYTES - *w;
     }
     random_fit(code, n, *w);
+    code[n - 1] = random_halt();
     if (once_in(3))
         for (uint32_t changes = 1 + random_below(3); changes != 0; changes--)
-            code[random_below(n)] = random_instruction(3);
+            code[random_below(n)] = once_in(4) ? random_halt() : random_instruction(3);
     uint16_t mask = (uint16_t)(0x21fc + (once_in(8) ? random_below(4) : 0));
     for (uint32_t i = 0; i < n; i++) /* a base that 4 may not divide */
         if (code[i] == 0x21fc)
@@ -168,18 +170,31 @@ void compare_images(long cases)
     print_numbers(counts, PAW_STOP_MISALIGNED);
 }
 
-/* Every code of two instructions, the second HALT. */
-void compare_pairs(void)
+/* Has every peer the library's verdict on n halfwords? Answers whether they are fit. */
+static bool compare_short(const uint16_t *halfwords, uint32_t n, const char *what)
 {
-    unsigned fit = 0;
+    paw_pack(halfwords, n, 256, 256, file, PAW_BLOCK_BYTES);
+    uint64_t answer = paw_verify(file, PAW_BLOCK_BYTES);
+    for (size_t i = 1; i < MAKERS; i++)
+        if (makers[i].verify(file, PAW_BLOCK_BYTES) != answer)
+            fail(what, makers[i].name, halfwords[0]);
+    return paw_answer_number(answer) == PAW_OK;
+}
+
+/* Every halfword by itself, before a HALT with note 0, and before one with any note. */
+void compare_short_codes(void)
+{
+    unsigned single = 0, pairs = 0, noted = 0;
     for (uint32_t h = 0; h < 65536; h++) {
-        const uint16_t pair[2] = { (uint16_t)h, 0 };
-        paw_pack(pair, 2, 256, 256, file, PAW_BLOCK_BYTES);
-        uint64_t answer = paw_verify(file, PAW_BLOCK_BYTES);
-        fit += paw_answer_number(answer) == PAW_OK;
-        for (size_t i = 1; i < MAKERS; i++)
-            if (makers[i].verify(file, PAW_BLOCK_BYTES) != answer)
-                fail("pair", makers[i].name, h);
+        const uint16_t pair[2] = { (uint16_t)h, 0 }, with_note[2] = { (uint16_t)h, random_halt() };
+        single += compare_short(pair, 1, "code of one");
+        pairs += compare_short(pair, 2, "code of two");
+        noted += compare_short(with_note, 2, "code of two with a note");
     }
-    printf("every code of two instructions agrees; %u are fit\n", fit);
+    if (single != 256 || pairs != 7484 || noted != pairs) {
+        printf("%u, %u and %u short codes are fit, not 256, 7484 and 7484\n", single, pairs, noted);
+        exit(1);
+    }
+    printf("every code of one instruction agrees; %u are fit\n", single);
+    printf("every code of two, the second HALT, agrees; %u are fit, %u with notes\n", pairs, noted);
 }

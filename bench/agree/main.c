@@ -1,6 +1,6 @@
 /*
- * Holds every peer to libpaw.a on the same work: answers, registers, flags and all of memory must
- * be the same. The work is random, from a fixed seed. With a number, that many times as much of it.
+ * Holds every peer to libpaw.a on the same work: answers, registers, flags, notes and all of memory
+ * must be the same. The work is random, from a fixed seed. With a number, that many times as much.
  */
 #include <stdio.h>
 #include <stdlib.h>
@@ -38,10 +38,11 @@ int main(int argc, char **argv)
     seed_random(0x9E3779B97F4A7C15);
     compare_runs(times * RUNS);
     compare_halfwords();
+    compare_notes();
     compare_programs();
     compare_steps(times * STEPS);
     compare_images(times * IMAGES);
-    compare_pairs();
+    compare_short_codes();
     compare_facts(times * FACTS);
     printf("peers by gcc%s: all as the library\n", WITH_CLANG ? " and clang" : "");
     return 0;

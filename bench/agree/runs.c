@@ -1,9 +1,10 @@
-/* Runs and steps of random code, of every halfword, and of the programs that are timed. */
+/* Runs and steps of random code, of every halfword and note, and of the programs that are timed. */
 #include <stdio.h>
 #include <stdlib.h>
 #include <string.h>
 
 #include "agree.h"
+#include "machine.h"
 #include "programs.h"
 #include "random.h"
 
@@ -21,7 +22,7 @@ static void put_everywhere(uint16_t address, uint16_t h)
 static void fill_memories(uint32_t any_in, uint32_t keep)
 {
     for (uint32_t address = 0; address < PAW_MEMORY_BYTES; address += 2) {
-        uint16_t h = once_in(200) ? 0 : random_instruction(any_in);
+        uint16_t h = once_in(200) ? random_halt() : random_instruction(any_in);
         if (!once_in(keep)) {
             if (h >> 12 == 6)
                 h |= 0x1000; /* of a byte instead */
@@ -40,9 +41,25 @@ static uint64_t compare_run(const struct paw_machine *start, size_t len, uint32_
     uint64_t answer = paw_run(&want, memories[LIBRARY], len, budget);
     for (size_t i = 1; i < ENGINES; i++) {
         struct paw_machine m = *start;
-        if (engines[i].run(&m, memories[i], len, budget) != answer ||
-            memcmp(&m, &want, sizeof m) != 0 || !same_memory(i))
+        if (engines[i].run(&m, memories[i], len, budget) != answer || !same_machine(&m, &want) ||
+            !same_memory(i))
             fail(what, engines[i].name, number);
+    }
+    return answer;
+}
+
+/* A step by all makers, each in both forms, from the same start. Answers the library's answer. */
+static uint32_t compare_step(const struct paw_machine *start, size_t len, const char *what,
+                             long number)
+{
+    struct paw_machine want = *start;
+    uint32_t answer = paw_step(&want, memories[LIBRARY], len);
+    for (size_t i = 1; i < ENGINES; i++) { /* a memory each: steps, then those by value */
+        const struct maker *maker = &makers[i < MAKERS ? i : i - MAKERS + 1];
+        step_function *step = i < MAKERS ? maker->step : maker->step_by_value;
+        struct paw_machine m = *start;
+        if (step(&m, memories[i], len) != answer || !same_machine(&m, &want) || !same_memory(i))
+            fail(what, maker->name, number);
     }
     return answer;
 }
@@ -70,8 +87,31 @@ void compare_halfwords(void)
         start.regs[15] &= 0xfffe;
         put_everywhere(start.regs[15], (uint16_t)h);
         compare_run(&start, PAW_MEMORY_BYTES, 1 + random_below(3), "halfword", h);
+        put_everywhere(start.regs[15], (uint16_t)h); /* which the run may have overwritten */
+        compare_step(&start, PAW_MEMORY_BYTES, "step of a halfword", h);
     }
-    printf("a run from every halfword agrees\n");
+    printf("a run from every halfword and its step agree\n");
+}
+
+/*
+ * Every note, and as many halfwords behind them, one step ahead of the start: by budgets that end
+ * before it, right before it, at it, and by a memory that is refused.
+ */
+void compare_notes(void)
+{
+    enum { ADDRESS = 4096, MOST_BUDGET = 3 };
+    long halts = 0;
+    for (uint32_t h = 0; h < 512; h++)
+        for (uint32_t budget = 0; budget <= MOST_BUDGET; budget++) {
+            struct paw_machine start = random_machine();
+            start.regs[15] = ADDRESS;
+            put_everywhere(ADDRESS, 0x2001); /* MOV R0, #1 */
+            put_everywhere(ADDRESS + 2, (uint16_t)h);
+            compare_run(&start, PAW_MEMORY_BYTES - 1, budget, "note, refused", h);
+            uint64_t answer = compare_run(&start, PAW_MEMORY_BYTES, budget, "note", h);
+            halts += paw_run_number(answer) == PAW_HALT;
+        }
+    printf("runs around every note agree; %ld of them halt\n", halts);
 }
 
 void compare_programs(void)
@@ -106,17 +146,7 @@ void compare_steps(long cases)
         if (once_in(4))
             put_everywhere(start.regs[15] & 0xfffe, (uint16_t)random_word());
         size_t len = once_in(500) ? PAW_MEMORY_BYTES + 1 : PAW_MEMORY_BYTES;
-        struct paw_machine want = start;
-        uint32_t answer = paw_step(&want, memories[LIBRARY], len);
-        counts[answer]++;
-        for (size_t i = 1; i < ENGINES; i++) { /* a memory each: steps, then those by value */
-            const struct maker *maker = &makers[i < MAKERS ? i : i - MAKERS + 1];
-            step_function *step = i < MAKERS ? maker->step : maker->step_by_value;
-            struct paw_machine m = start;
-            if (step(&m, memories[i], len) != answer || memcmp(&m, &want, sizeof m) != 0 ||
-                !same_memory(i))
-                fail("step", maker->name, n);
-        }
+        counts[compare_step(&start, len, "step", n)]++;
     }
     printf("%ld steps agree; endings:", cases);
     print_numbers(counts, PAW_HALT + 1);

@@ -9,6 +9,16 @@ struct stepped {
     uint32_t number;
 };
 
+/*
+ * A copy in parts. In one, compilers move the record's end as eight bytes from R15 on, and the
+ * processor waits for the smaller writes that made them.
+ */
+static inline void copy_machine(struct paw_machine *to, const struct paw_machine *from)
+{
+    memcpy(to, from, offsetof(struct paw_machine, note));
+    to->note = from->note;
+}
+
 static struct stepped step_value(struct paw_machine machine, uint8_t *mem, size_t len)
 {
     uint32_t number = PEER(step)(&machine, mem, len);
@@ -17,7 +27,9 @@ static struct stepped step_value(struct paw_machine machine, uint8_t *mem, size_
 
 uint32_t PEER(step_by_value)(struct paw_machine *m, uint8_t *mem, size_t len)
 {
-    struct stepped stepped = step_value(*m, mem, len);
-    *m = stepped.machine;
+    struct paw_machine machine;
+    copy_machine(&machine, m);
+    struct stepped stepped = step_value(machine, mem, len);
+    copy_machine(m, &stepped.machine);
     return stepped.number;
 }

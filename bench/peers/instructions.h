@@ -12,10 +12,11 @@
  *   JUMP(to)              ends a body: on to an address that is even if the PC is
  *   WRITE_PC(to)          ends a body: on to any address
  *   STOP(number)          ends a body: no step was made
+ *   HALT_WITH(note)       ends a body: no step was made, and the machine gets the note
  */
 OP(HALT)
 {
-    STOP(h == 0 ? PAW_HALT : PAW_STOP_UNDEFINED);
+    HALT_WITH(IMM8);
 }
 
 OP(MOV_IMM)

@@ -1,13 +1,13 @@
 /*
- * Kinds of instruction by the upper ten bits of a halfword. These tell all kinds apart but for
- * HALT, the first halfword of its 64 alone; and they tell which operands are high registers.
+ * Kinds of instruction by the upper ten bits of a halfword. These tell all kinds apart, and which
+ * operands are high registers.
  */
 #ifndef KINDS_H
 #define KINDS_H
 
 /* Each kind with its first and its last value. */
 #define KINDS(X)                                                                                  \
-    X(HALT, 0x000, 0x000)                                                                         \
+    X(HALT, 0x000, 0x003)                                                                         \
     X(MOV_IMM, 0x080, 0x09f)                                                                      \
     X(CMP_IMM, 0x0a0, 0x0bf)                                                                      \
     X(AND, 0x100, 0x100)                                                                          \
@@ -44,7 +44,7 @@
 
 /* What lies between them. */
 #define HOLES(X)                                                                                  \
-    X(0x001, 0x07f)                                                                               \
+    X(0x004, 0x07f)                                                                               \
     X(0x0c0, 0x0ff)                                                                               \
     X(0x106, 0x10f)                                                                               \
     X(0x114, 0x114)                                                                               \

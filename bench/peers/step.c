@@ -57,6 +57,11 @@ static inline uint32_t shift_now(struct paw_machine *m, uint32_t a, uint32_t k)
     }
 #define WRITE_PC(to) JUMP(to)
 #define STOP(number) return number
+#define HALT_WITH(low)                                                                            \
+    {                                                                                             \
+        m->note = (uint8_t)(low);                                                                 \
+        STOP(PAW_HALT);                                                                           \
+    }
 
 uint32_t PEER(step)(struct paw_machine *m, uint8_t *mem, size_t len)
 {

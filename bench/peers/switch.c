@@ -33,6 +33,11 @@
         number = (how);                                                                           \
         goto end;                                                                                 \
     }
+#define HALT_WITH(low)                                                                            \
+    {                                                                                             \
+        m->note = (uint8_t)(low);                                                                 \
+        STOP(PAW_HALT);                                                                           \
+    }
 
 uint64_t PEER(switch_run)(struct paw_machine *m, uint8_t *mem, size_t len, uint32_t budget)
 {

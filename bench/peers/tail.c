@@ -13,6 +13,7 @@ struct state {
     uint16_t regs[16];
     struct carry carry;
     uint32_t number;
+    uint8_t note;
 };
 
 /* What a run leaves in registers; the rest is in the state. */
@@ -54,6 +55,11 @@ __attribute__((noinline)) static struct left_over end(struct state *s, uint64_t 
 #define FLAG_C carried(&s->carry)
 #define FLAG_V overflowed(&s->carry)
 #define STOP(number) return end(s, pc, left, nz, number)
+#define HALT_WITH(low)                                                                            \
+    {                                                                                             \
+        s->note = (uint8_t)(low);                                                                 \
+        STOP(PAW_HALT);                                                                           \
+    }
 #define JUMP(to)                                                                                  \
     {                                                                                             \
         pc = (to);                                                                                \
@@ -93,6 +99,7 @@ uint64_t PEER(tail_run)(struct paw_machine *m, uint8_t *mem, size_t len, uint32_
     struct state s;
     memcpy(s.regs, m->regs, sizeof s.regs);
     s.carry = carry_of(m->c, m->v);
+    s.note = m->note;
     uint64_t h = get16(mem + pc);
     struct left_over last = handlers[h >> 6](&s, mem, pc, budget, h, result_of(m->n, m->z));
     memcpy(m->regs, s.regs, sizeof s.regs);
@@ -100,5 +107,6 @@ uint64_t PEER(tail_run)(struct paw_machine *m, uint8_t *mem, size_t len, uint32_
     m->z = RESULT_Z(last.nz);
     m->c = carried(&s.carry);
     m->v = overflowed(&s.carry);
+    m->note = s.note;
     return run_answer(s.number, budget - last.left);
 }

@@ -44,9 +44,7 @@ static uint64_t verify_code(const uint16_t *code, unsigned count, uint32_t w, ui
         if (marks[i / 64] >> i % 64 & 1)
             forget(facts);
         switch (h >> 8) {
-        case 0x00: /* HALT, which alone may be the last */
-            if (h != 0)
-                return refusal(PAW_UNDEFINED, address);
+        case 0x00: /* HALT with any note, which alone may be the last */
             continue;
         case 0x20 ... 0x27: /* MOV Rd, #imm */
             facts[IMM8_RD] = known(IMM8);

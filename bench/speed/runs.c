@@ -3,6 +3,7 @@
 #include <stdlib.h>
 #include <string.h>
 
+#include "machine.h"
 #include "measure.h"
 #include "peers/peers.h"
 #include "programs.h"
@@ -63,7 +64,7 @@ static void add_contest(struct series *series, const struct contest *contest)
     double seconds[ENGINES];
     measure(contest, seconds);
     for (size_t e = 1; e < contest->engines; e++)
-        must(memcmp(&machines[e], &machines[LIBRARY], sizeof machines[e]) == 0 &&
+        must(same_machine(&machines[e], &machines[LIBRARY]) &&
                  memcmp(memories[e], memories[LIBRARY], PAW_MEMORY_BYTES) == 0,
              "engines differ");
     add_pass(series, seconds, contest->engines);

@@ -6,16 +6,16 @@ use core::panic::PanicInfo;
 
 use paw::{Machine, Run, RunOutcome};
 
-/// Packs and runs `MOV R0, #7`, `HALT`, and answers R0, or 0 if anything else came of it.
+/// Packs and runs `MOV R0, #7`, `HALT #3`, and answers R0, or 0 if anything else came of it.
 #[unsafe(no_mangle)]
 pub extern "C" fn bare(memory: &mut [u8; paw::MEMORY_BYTES]) -> u16 {
     let mut file = [0; paw::BLOCK_BYTES];
     let mut machine = Machine::default();
-    let ended = paw::pack(&[0x2007, 0x0000], 256, 64, &mut file)
+    let ended = paw::pack(&[0x2007, 0x0003], 256, 64, &mut file)
         .and_then(|()| paw::load(&file, memory))
         .and_then(|_| paw::run(&mut machine, memory, 10));
     match ended {
-        Ok(Run { outcome: RunOutcome::Halted, steps: 1 }) => machine.regs[0],
+        Ok(Run { outcome: RunOutcome::Halted, steps: 1 }) if machine.note == 3 => machine.regs[0],
         _ => 0,
     }
 }

@@ -14,7 +14,7 @@ int main(void)
         printf("condition %u %s\n", (unsigned)condition, paw_condition_name(condition));
     }
     puts("0 MOV R1, #252\n2 AND R0, R1\n4 MOV R2, #128\n6 ADD R2, R2\n8 ADD R0, R2\n"
-         "10 STR R1, [R0, #0]\n12 HALT");
+         "10 STR R1, [R0, #0]\n12 HALT #0");
     puts("halted after 6 steps");
     return 0;
 }

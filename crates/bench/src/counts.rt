@@ -1,5 +1,5 @@
 // The two totals: how many halfwords are defined, and how many codes of two
-// instructions that end in HALT are fit.
+// instructions that end in HALT with note 0 are fit.
 use super::console::print;
 use super::console::print_number;
 use isa::Decoded;
@@ -17,7 +17,7 @@ fn is_defined(h: u16) -> bool {
     }
 }
 
-// Whether the code of a halfword and HALT is fit.
+// Whether the code of a halfword and HALT with note 0 is fit.
 fn is_fit(h: u16) -> bool {
     let mut block = [0u8; 512];
     let code = [h, 0];

@@ -21,6 +21,7 @@ pub(crate) fn print_shift() {
         z: false,
         c: false,
         v: false,
+        note: 0,
     };
     let out = stepper::step_value(start, &mut memory);
     let m = out.machine;

@@ -15,7 +15,7 @@ use verifier::Verdict;
 ghost use mathlib.Core.Path.{_≡_};
 ghost use Rattle.image.specs.Check.{checkOf};
 
-// A machine as it starts: all registers and flags 0.
+// A machine as it starts: all registers, flags and the note 0.
 fn cleared() -> Machine {
     Machine {
         regs: [0u16; 16],
@@ -23,6 +23,7 @@ fn cleared() -> Machine {
         z: false,
         c: false,
         v: false,
+        note: 0,
     }
 }
 
@@ -62,8 +63,18 @@ fn print_ending(outcome: RunOutcome) -> bool {
     }
 }
 
-fn print_ran(outcome: RunOutcome, count: u32) -> bool {
-    print_ending(outcome) && print_number(count as u64) && print(b"\n")
+// The note, which is 0 at the start, so another one is HALT's. HALT with note 0
+// gives no reason, and none is printed.
+fn print_note(note: u8) -> bool {
+    if note == 0 {
+        true
+    } else {
+        print(b" note ") && print_number(note as u64)
+    }
+}
+
+fn print_ran(outcome: RunOutcome, count: u32, note: u8) -> bool {
+    print_ending(outcome) && print_number(count as u64) && print_note(note) && print(b"\n")
 }
 
 // Loads the program into a memory and runs it.
@@ -72,8 +83,9 @@ fn print_loaded(file: &[u8], memory: &mut [u8], budget: u32) -> bool {
         Loaded::Refused(r) => print_refusal(file, r),
         Loaded::Done(_) => {
             let out = runner::run(cleared(), memory, budget);
+            let machine = out.machine;
             let outcome = out.outcome;
-            print_ran(outcome, out.count)
+            print_ran(outcome, out.count, machine.note)
         }
     }
 }

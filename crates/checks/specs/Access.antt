@@ -38,4 +38,4 @@ accessOf (Strb offset rb rd) = byteAccess offset rb
 accessOf (Ldrb offset rb rd) = byteAccess offset rb
 accessOf (AddPc rd imm) = noAccess
 accessOf (Branch condition offset) = noAccess
-accessOf Halt = noAccess
+accessOf (Halt note) = noAccess

@@ -57,7 +57,7 @@ check12 (Strb offset rb rd) = true
 check12 (Ldrb offset rb rd) = true
 check12 (AddPc rd imm) = true
 check12 (Branch condition offset) = true
-check12 Halt = true
+check12 (Halt note) = true
 
 -- the address that a jump goes to is below c
 abbrev pub staysInCode : Layout → Target → Bool
@@ -68,9 +68,9 @@ staysInCode layout Nowhere = true
 abbrev pub check13 : Layout → ByteAddress → Instruction → Bool
 check13 layout a i = staysInCode layout (jumpOf a i)
 
--- 14: the last halfword h of the code is HALT, which is 0 ("Encodings")
+-- 14: the last halfword h of the code is HALT, with any note, so it is below 256 (Change 1)
 abbrev pub check14 : Bool → ℕ → Bool
-check14 isLast h = cond isLast (eqb h 0) true
+check14 isLast h = cond isLast (ltb h 256) true
 
 -- a check of the instruction at an address
 abbrev pub atAddress : ByteAddress → ℕ → Bool → Asked

@@ -53,7 +53,7 @@ transferOf a (Strb offset rb rd) s = s
 transferOf a (Ldrb offset rb rd) s = set s rd byteOf
 transferOf a (AddPc rd imm) s = set s rd (exactlyOf (pcSum a imm))
 transferOf a (Branch condition offset) s = s
-transferOf a Halt s = s
+transferOf a (Halt note) s = s
 
 -- an undefined halfword changes nothing: the code is refused there
 abbrev pub afterOf : ByteAddress → Decoded → State → State

@@ -15,7 +15,7 @@ pub const PC: u8 = 15;
 pub fn check_last(h: u16) -> u8
     ensures { λ r. ⌜ r ≡ lastNumber h ⌝ }
 {
-    if h != 0 {
+    if h >= 256 {
         return 14;
     }
     0

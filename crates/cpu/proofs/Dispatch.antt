@@ -4,7 +4,7 @@ use native.Mathlib.Omega.{arith}
 use mathlib.Core.Bool.{Bool, true, false}
 use mathlib.Core.Path.{_≡_, refl, sym, ap, _∙_}
 use lib.Dec.{lit<, eqb, ltb}
-use borrow.Author.Tests.{ne-eqb, lt-ltb, eqb-true, eqb-false, ltb-true}
+use borrow.Author.Tests.{ne-eqb, lt-ltb, le-ltb, eqb-true, eqb-false, ltb-true}
 use Rattle.units.specs.Field.{field, highRs, highRd}
 use Rattle.isa.specs.Decode.{entry, immTable, aluTable, highTable, table, decodeOf}
 use Rattle.isa.specs.declared.decoder.Decoded.the-variants.{Defined, Undefined}
@@ -130,6 +130,9 @@ module _ (h : ℕ) (fits : h < 65536) where
   parts : field h 11 5 ≡ 4 * field h 13 3 + field h 11 2
   parts = omega arith
 
+  no-halt : Not (field h 11 5) 0 → 256 ≤ h
+  no-halt n = omega arith
+
   no-imm : Not (field h 11 5) 4 → Not (field h 11 5) 5 → field h 13 3 ≡ 1 → 2 ≤ field h 11 2
   no-imm n n′ f = omega (arith, parts)
 
@@ -142,8 +145,7 @@ module _ (h : ℕ) (fits : h < 65536) where
   is-branch-or-none n told r = by-format (field h 13 3) refl
     where
       by-format : (t : ℕ) → field h 13 3 ≡ t → otherElse h ≡ branchElse h
-      by-format zero f =
-          simp (f, ne-eqb h 0 (λ z. r .0 .0 .0 .0 .0 .0 .0 .1 (told ∙ ap (λ (x : ℕ). field x 11 5) z)))
+      by-format zero f = simp (f, le-ltb h 256 (no-halt (λ z. r .0 .0 .0 .0 .0 .0 .0 .1 (told ∙ z))))
       by-format (suc zero) f =
           rw f (entry-past (immTable h) (field h 11 2) (no-imm (λ z. r .0 .0 .0 .0 .0 .0 .1 (told ∙ z)) (λ z. r .0 .0 .0 .0 .0 .1 (told ∙ z)) f))
       by-format (suc (suc zero)) f = simp f

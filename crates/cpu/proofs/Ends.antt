@@ -9,9 +9,9 @@ use Rattle.units.specs.Address.{wrap}
 use Rattle.alu.specs.declared.control.Control.{Control}
 use Rattle.cpu.specs.declared.machine.Machine.{Machine}
 use Rattle.alu.specs.Flags.{Flags}
-use Rattle.cpu.specs.Machine.{machine, advanced, written}
+use Rattle.cpu.specs.Machine.{advanced, written}
 use Rattle.alu.specs.Control.{flagsIn}
-use Rattle.cpu.specs.Held.{moved, Whole, Holds}
+use Rattle.cpu.specs.Held.{moved, bare, Whole, Holds}
 
 -- other flags at the same PC
 abbrev pub Flagged : Control → Control → Flags → Type 0
@@ -43,22 +43,22 @@ module _ (regs : List ℕ) (pc : ℕ) (whole : Whole regs) where
 module _ (regs : List ℕ) (k k′ : Control) (whole : Whole regs) where
   -- no result, with the flags as another control has them
   pub advance-holds : (g : Control) (f : Flags) → k′ ≡ moved (wrap (g .pc + 2)) g → Flagged g k f
-      → Holds regs k′ (machine (advanced (set regs 15 (k .pc))) f)
+      → Holds regs k′ (bare (advanced (set regs 15 (k .pc))) f)
   advance-holds g f is flagged =
       record {
         machine =
             rw is
-            (ap (λ (l : List ℕ). machine l (flagsIn g)) (rw (flagged .0) (moved-on regs (k .pc) whole))
-            ∙ ap (λ (x : Flags). machine (advanced (set regs 15 (k .pc))) x) (flagged .1));
+            (ap (λ (l : List ℕ). bare l (flagsIn g)) (rw (flagged .0) (moved-on regs (k .pc) whole))
+            ∙ ap (λ (x : Flags). bare (advanced (set regs 15 (k .pc))) x) (flagged .1));
         whole = whole;
       }
 
   module _ (rd x : ℕ) where
     pub write-holds : (rd ≡ 15 → ⊥) → k′ ≡ moved (wrap (k .pc + 2)) k
-        → Holds (set regs rd x) k′ (machine (written (set regs 15 (k .pc)) rd x) (flagsIn k))
+        → Holds (set regs rd x) k′ (bare (written (set regs 15 (k .pc)) rd x) (flagsIn k))
     write-holds other is = record { machine = rw (is, write-is regs (k .pc) whole rd x other); whole = length-set regs rd x ∙ whole }
 
-    pub write-pc-holds : rd ≡ 15 → k′ ≡ moved x k → Holds regs k′ (machine (written (set regs 15 (k .pc)) rd x) (flagsIn k))
+    pub write-pc-holds : rd ≡ 15 → k′ ≡ moved x k → Holds regs k′ (bare (written (set regs 15 (k .pc)) rd x) (flagsIn k))
     write-pc-holds named is = record { machine = rw (is, write-pc-is regs (k .pc) whole rd x named); whole = whole }
 
 -- what the PC's own place has beforehand doesn't count
@@ -74,12 +74,12 @@ held-as regs same k m is holds = rw is holds
 
 -- a result, with the flags as another control has them
 pub flags-as : (regs l : List ℕ) (rd x : ℕ) (k′ g k : Control) (f : Flags) → Flagged g k f
-    → Holds regs k′ (machine (written (set l 15 (g .pc)) rd x) (flagsIn g)) → Holds regs k′ (machine (written (set l 15 (k .pc)) rd x) f)
+    → Holds regs k′ (bare (written (set l 15 (g .pc)) rd x) (flagsIn g)) → Holds regs k′ (bare (written (set l 15 (k .pc)) rd x) f)
 flags-as regs l rd x k′ g k f flagged holds =
     record {
       machine =
           holds .machine
-          ∙ (ap (λ (pc : ℕ). machine (written (set l 15 pc) rd x) (flagsIn g)) (flagged .0)
-          ∙ ap (λ (y : Flags). machine (written (set l 15 (k .pc)) rd x) y) (flagged .1));
+          ∙ (ap (λ (pc : ℕ). bare (written (set l 15 pc) rd x) (flagsIn g)) (flagged .0)
+          ∙ ap (λ (y : Flags). bare (written (set l 15 (k .pc)) rd x) y) (flagged .1));
       whole = holds .whole;
     }

@@ -1,11 +1,11 @@
 -- How the function of a halfword's format ends.
-use Prim.Native.Nat.{ℕ, _+_, _<_}
+use Prim.Native.Nat.{ℕ, _+_, _<_, _≤_}
 use mathlib.Core.Bool.{Bool, true, false}
 use mathlib.Core.List.{List}
 use mathlib.Core.Path.{_≡_, refl, sym, _∙_}
 use lib.Seq.{set-set}
-use borrow.Author.Tests.{eq-eqb, ne-eqb}
-use Rattle.units.specs.Address.{wrap, branchTargetOf}
+use borrow.Author.Tests.{lt-ltb, le-ltb}
+use Rattle.units.specs.Address.{branchTargetOf}
 use Rattle.units.specs.Field.{field}
 use Rattle.isa.specs.Decode.{haltOf}
 use Rattle.isa.specs.declared.decoder.Decoded.{Decoded}
@@ -39,12 +39,12 @@ pub none : (d : Decoded) (regs memory : List ℕ) (e : Executed) (k : Control) �
     → Leads regs e memory (executeDecoded d (held regs k) memory)
 none d regs memory e k is gave whole = rw is (stays regs memory e k (Stopped 19) gave whole)
 
-pub halts : (h : ℕ) (k : Control) → h ≡ 0 → Beside (record { control = k; outcome = Halted }) k (haltOf h)
+pub halts : (h : ℕ) (k : Control) → h < 256 → Beside (record { control = k; outcome = Halted }) k (haltOf h)
 unfolding executeOf
-halts h k is regs memory whole = simp (eq-eqb h 0 is) (record { result = refl; whole = whole })
+halts h k is regs memory whole = simp (lt-ltb h 256 is) (record { result = refl; whole = whole })
 
-pub no-halt : (h : ℕ) (k : Control) (e : Executed) → (h ≡ 0 → ⊥) → Gave e k (Stopped 19) → Beside e k (haltOf h)
-no-halt h k e other gave regs memory whole = simp (ne-eqb h 0 other) (stays regs memory e k (Stopped 19) gave whole)
+pub no-halt : (h : ℕ) (k : Control) (e : Executed) → 256 ≤ h → Gave e k (Stopped 19) → Beside e k (haltOf h)
+no-halt h k e other gave regs memory whole = simp (le-ltb h 256 other) (stays regs memory e k (Stopped 19) gave whole)
 
 -- what a branch leaves beside the registers is what it does
 pub branch-holds : (condition offset : ℕ) (test : Bool) (regs : List ℕ) (k k′ : Control) → Whole regs → test ≡ conditionOf condition (flagsIn k)

@@ -3,3 +3,5 @@ pub mod Access
 pub mod Formats
 pub mod Dispatch
 pub mod Fetch
+pub mod Endings
+pub mod Notes

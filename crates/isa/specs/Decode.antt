@@ -18,9 +18,9 @@ entry (d ∷ ds) (suc n) = entry ds n
 abbrev pub only : Bool → Decoded → Decoded
 only test d = cond test d Undefined
 
--- 0000000000000000
+-- 00000000 note:8 (Change 1)
 abbrev pub haltOf : ℕ → Decoded
-haltOf h = only (eqb h 0) (Defined Halt)
+haltOf h = only (ltb h 256) (Defined (Halt (field h 0 8)))
 
 -- 001 op:2 Rd:3 imm:8
 abbrev pub immTable : ℕ → List Decoded

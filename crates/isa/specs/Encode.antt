@@ -40,6 +40,10 @@ addPcForm rd imm = given (ltb rd 8) (given (ltb imm 256) (Halfword (0xa000 + rd 
 abbrev pub branchForm : ℕ → ℕ → Encoded
 branchForm condition offset = given (ltb condition 14) (given (ltb offset 256) (Halfword (0xd000 + condition * 0x100 + offset)))
 
+-- 00000000 note:8 (Change 1)
+abbrev pub haltForm : ℕ → Encoded
+haltForm note = given (ltb note 256) (Halfword note)
+
 abbrev pub encodeOf : Instruction → Encoded
 encodeOf (MovImm rd imm) = immForm 0 rd imm
 encodeOf (CmpImm rd imm) = immForm 1 rd imm
@@ -58,4 +62,4 @@ encodeOf (Strb offset rb rd) = memoryForm 2 offset rb rd
 encodeOf (Ldrb offset rb rd) = memoryForm 3 offset rb rd
 encodeOf (AddPc rd imm) = addPcForm rd imm
 encodeOf (Branch condition offset) = branchForm condition offset
-encodeOf Halt = Halfword 0
+encodeOf (Halt note) = haltForm note

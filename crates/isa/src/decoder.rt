@@ -16,8 +16,9 @@ pub enum Decoded {
 fn decode_halt(h: u16) -> Decoded
     ensures { λ r. ⌜ r ≡ haltOf h ⌝ }
 {
-    if h == 0 {
-        Decoded::Defined(Instruction::Halt)
+    let note = bits(h, 0, 8);
+    if h < 256 {
+        Decoded::Defined(Instruction::Halt { note })
     } else {
         Decoded::Undefined
     }

@@ -6,7 +6,7 @@ use refusals::refusal_of;
 ghost use mathlib.Core.Path.{_≡_};
 ghost use Prim.Native.Nat.{_<_};
 ghost use Rattle.refusals.specs.Refusal.{refusal};
-ghost use Rattle.isa.specs.Encode.{encodeOf, immForm, aluForm, highForm, memoryForm, addPcForm, branchForm};
+ghost use Rattle.isa.specs.Encode.{encodeOf, immForm, aluForm, highForm, memoryForm, addPcForm, branchForm, haltForm};
 
 // An instruction's halfword, or check 17's refusal.
 pub enum Encoded {
@@ -107,6 +107,12 @@ fn branch_form(cond: u8, offset: u8) -> Encoded
     Encoded::Halfword(((cond as u16) << 8) | (offset as u16) | 0xd000)
 }
 
+fn halt_form(note: u8) -> Encoded
+    ensures { λ r. ⌜ r ≡ haltForm note ⌝ }
+{
+    Encoded::Halfword(note as u16)
+}
+
 // The halfword of an instruction; refused where its fields form none.
 pub fn encode(i: Instruction) -> Encoded
     ensures { λ r. ⌜ r ≡ encodeOf i ⌝ }
@@ -129,6 +135,6 @@ pub fn encode(i: Instruction) -> Encoded
         Instruction::Ldrb { offset, rb, rd } => memory_form(3, offset, rb, rd),
         Instruction::AddPc { rd, imm } => add_pc_form(rd, imm),
         Instruction::Branch { cond, offset } => branch_form(cond, offset),
-        Instruction::Halt => Encoded::Halfword(0),
+        Instruction::Halt { note } => halt_form(note),
     }
 }

@@ -20,5 +20,5 @@ pub enum Instruction {
     Ldrb { offset: u8, rb: u8, rd: u8 },
     AddPc { rd: u8, imm: u8 },
     Branch { cond: u8, offset: u8 },
-    Halt,
+    Halt { note: u8 },
 }

@@ -7,11 +7,14 @@ use Rattle.isa.specs.declared.encoder.Encoded.the-variants.{Refused}
 use Rattle.isa.specs.Decode.{decodeOf}
 use Rattle.isa.specs.Encode.{encodeOf}
 
-pub halt : decodeOf 0x0000 ≡ Defined Halt
+pub halt : decodeOf 0x0000 ≡ Defined (Halt 0)
 halt = refl
 
-pub unused-halt : decodeOf 0x0001 ≡ Undefined
-unused-halt = refl
+pub halt-noted : decodeOf 0x0001 ≡ Defined (Halt 1)
+halt-noted = refl
+
+pub past-the-notes : decodeOf 0x0100 ≡ Undefined
+past-the-notes = refl
 
 pub cmp-two-low : decodeOf 0x4500 ≡ Undefined
 cmp-two-low = refl

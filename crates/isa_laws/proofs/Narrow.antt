@@ -1,8 +1,8 @@
 -- What decoding gives has fields of their width. Said here once, for the laws of the cpu, of the verifier and of whole runs.
-use Prim.Native.Nat.{ℕ, zero, suc, _<_}
+use Prim.Native.Nat.{ℕ, _<_}
 use native.Mathlib.Omega.{arith}
-use mathlib.Core.Bool.{Bool, true, false}
-use mathlib.Core.List.{List, [], _∷_}
+use mathlib.Core.Bool.{Bool}
+use mathlib.Core.List.{List}
 use mathlib.Core.Path.{_≡_, subst⁻¹}
 use Rattle.units.specs.Field.{field, highRs, highRd}
 use Rattle.isa.specs.declared.decoder.Decoded.{Decoded}
@@ -11,6 +11,7 @@ use Rattle.isa.specs.declared.instruction.Instruction.{Instruction}
 use Rattle.isa.specs.declared.instruction.Instruction.the-variants.{MovImm, CmpImm, And, Eor, Asr, Tst, Neg, Cmp, AddHigh, CmpHigh, MovHigh, Str, Ldr, Strb, Ldrb, AddPc, Branch, Halt}
 use Rattle.isa.specs.Decode.{entry, only, decodeOf, immOf, immTable, aluOf, aluTable, highOf, highTable, registersTable, memoryOf, memoryTable, branchOf, table}
 use lib.Dec.{eqb, ltb}
+use Rattle.isa.proofs.Table.{All, entry-keeps, only-keeps}
 
 -- the fields of an instruction hold no more than their bits can: R0 to R7 but in the format for high registers
 abbrev pub Narrow : Instruction → Type 0
@@ -31,24 +32,17 @@ Narrow (Strb offset rb rd) = (offset < 32) × (rb < 8) × (rd < 8)
 Narrow (Ldrb offset rb rd) = (offset < 32) × (rb < 8) × (rd < 8)
 Narrow (AddPc rd imm) = (rd < 8) × (imm < 256)
 Narrow (Branch condition offset) = (condition < 16) × (offset < 256)
-Narrow Halt = Unit {0}
+Narrow (Halt note) = note < 256
 
 abbrev Good : Decoded → Type 0
 Good (Defined i) = Narrow i
 Good Undefined = Unit {0}
 
-abbrev AllGood : List Decoded → Type 0
-AllGood [] = Unit {0}
-AllGood (d ∷ ds) = Good d × AllGood ds
-
-entry-good : (ds : List Decoded) (n : ℕ) → AllGood ds → Good (entry ds n)
-entry-good [] n g = tt
-entry-good (d ∷ ds) zero g = g .0
-entry-good (d ∷ ds) (suc n) g = entry-good ds n (g .1)
+entry-good : (ds : List Decoded) (n : ℕ) → All Good ds → Good (entry ds n)
+entry-good = entry-keeps Good tt
 
 only-good : (test : Bool) (d : Decoded) → Good d → Good (only test d)
-only-good true d g = g
-only-good false d g = tt
+only-good = only-keeps Good tt
 
 imm-good : (h : ℕ) → Good (immOf h)
 imm-good h = entry-good (immTable h) (field h 11 2) ((omega arith, omega arith), ((omega arith, omega arith), tt))
@@ -70,7 +64,7 @@ branch-good h =
 decoded-good : (h : ℕ) → Good (decodeOf h)
 decoded-good h =
     entry-good (table h) (field h 13 3) (
-      only-good (eqb h 0) (Defined Halt) tt,
+      only-good (ltb h 256) (Defined (Halt (field h 0 8))) (omega arith),
       (
         imm-good h,
         (

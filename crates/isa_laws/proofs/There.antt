@@ -120,6 +120,12 @@ memory-case : (i : Instruction) (op offset rb rd : ℕ) → op < 4
 memory-case i op offset rb rd o e =
     under i offset 32 _ (λ p. under i rb 8 _ (λ q. under i rd 8 _ (λ r. memory-there _ op offset rb rd refl o p q r ∙ e)))
 
+pub halt-there : (note : ℕ) → note < 256 → decodeOf note ≡ Defined (Halt note)
+halt-there note small =
+    let e13 : field note 13 3 ≡ 0 = omega arith in
+    let e0 : field note 0 8 ≡ note = omega arith in
+    simp (e13, lt-ltb note 256 small, e0)
+
 pub there : (i : Instruction) → There i (encodeOf i)
 there (MovImm rd imm) = imm-case (MovImm rd imm) 0 rd imm (lit< tt) refl
 there (CmpImm rd imm) = imm-case (CmpImm rd imm) 1 rd imm (lit< tt) refl
@@ -138,4 +144,4 @@ there (Strb offset rb rd) = memory-case (Strb offset rb rd) 2 offset rb rd (lit<
 there (Ldrb offset rb rd) = memory-case (Ldrb offset rb rd) 3 offset rb rd (lit< tt) refl
 there (AddPc rd imm) = under (AddPc rd imm) rd 8 _ (λ p. under (AddPc rd imm) imm 256 _ (add-pc-there _ rd imm refl p))
 there (Branch cond offset) = under (Branch cond offset) cond 14 _ (λ p. under (Branch cond offset) offset 256 _ (branch-there _ cond offset refl p))
-there Halt = refl
+there (Halt note) = under (Halt note) note 256 _ (halt-there note)

@@ -7,8 +7,8 @@ ghost use Rattle.runner.specs.Run.{runOf};
 ghost use Rattle.endings.specs.Endings.{numbered, numberedStep, numberedRun};
 
 // One step of the caller's machine, which is written back whole. Answers 0 for
-// a completed step, 255 at HALT, 18 to 20 for a stop, 1 where memory has not
-// 65,536 bytes.
+// a completed step, 255 at HALT, whose note the machine then has, 18 to 20 for a
+// stop, 1 where memory has not 65,536 bytes.
 #[no_mangle]
 pub extern "C" fn paw_step(m: &mut Machine, memory: &mut [u8]) -> u32
     ensures { λ r. ⌜ numbered (now (m .exit)) (now (memory .exit)) r ≡ numberedStep (stepOf (now (m .entry)) (now (memory .entry))) ⌝ }

@@ -3,7 +3,7 @@ use Prim.Native.Nat.{ℕ, suc, _+_, _-_, _<_, _≤_}
 use native.Mathlib.Omega.{arith}
 use mathlib.Core.List.{List, [], _∷_}
 use mathlib.Core.Logic.{⊎-elim}
-use mathlib.Core.Path.{_≡_, refl, sym, ap, _∙_}
+use mathlib.Core.Path.{_≡_, refl, sym, ap, _∙_, subst⁻¹}
 use lib.ListN.{getD, length, set}
 use lib.Seq.{set-getD}
 use borrow.Author.Tests.{eq-eqb, ne-eqb}
@@ -22,36 +22,45 @@ use Rattle.cpu.specs.declared.outcome.Outcome.the-variants.{Completed, Halted, 
 use Rattle.cpu.specs.Step.{State, StepResult, stepResult, fetchAndExecute, stepOf}
 use Rattle.runner.specs.Run.{RunResult, runResult, state, goOn, runFrom, runOf}
 use Rattle.alu.specs.declared.status.Status.{Status}
-use Rattle.alu.specs.Flags.{Flags}
-use Rattle.cpu.specs.Machine.{machine}
+use Rattle.cpu.specs.Machine.{withNote}
 use Rattle.alu.specs.Control.{flagsIn, flagsOf}
-use Rattle.cpu.specs.Held.{held}
+use Rattle.cpu.specs.Held.{bare, held, unnoted}
 use Rattle.runner.specs.Ends.{asRun}
-use Rattle.runner.specs.Lent.{lent}
+use Rattle.runner.specs.Lent.{lent, unnotedRun}
+use Rattle.cpu.proofs.Endings.{halted-not-completed}
+use Rattle.cpu.proofs.Notes.{bare-step}
 use Rattle.cpu.proofs.outcome.Outcome.{the-type}
 
-pub run-refused : (budget : ℕ) (m : Machine) (memory : List ℕ) (r : Refusal) → (length memory ≡ memoryBytes → ⊥) → r ≡ refusal 1
-    → runResult m memory (RunRefused r) 0 ≡ runOf budget m memory
+pub run-refused : (budget : ℕ) (regs : List ℕ) (s : Status) (memory : List ℕ) (r : Refusal) → (length memory ≡ memoryBytes → ⊥) → r ≡ refusal 1
+    → runResult (lent regs s) memory (RunRefused r) 0 ≡ unnotedRun (runOf budget (lent regs s) memory)
 unfolding runOf
-run-refused budget m memory r wrong is = simp (ne-eqb (length memory) memoryBytes wrong, is)
+run-refused budget regs s memory r wrong is = simp (ne-eqb (length memory) memoryBytes wrong, is)
 
 -- what is held at the start is the machine
 pub starts : (regs : List ℕ) (s : Status) (k : Control) → k .pc ≡ getD regs 15 0 → flagsIn k ≡ flagsOf s → held regs k ≡ lent regs s
 starts regs s k pc flags =
-    ap (λ (x : ℕ). machine (set regs 15 x) (flagsIn k)) pc
-    ∙ (ap (λ (l : List ℕ). machine l (flagsIn k)) (set-getD regs 15 0) ∙ ap (λ (f : Flags). machine regs f) flags)
+    ap (λ (x : ℕ). bare (set regs 15 x) (flagsIn k)) pc
+    ∙ (ap (λ (l : List ℕ). bare l (flagsIn k)) (set-getD regs 15 0) ∙ ap (bare regs) flags)
 
 pub run-starts : (budget : ℕ) (s : State) → runFrom (budget - 0) 0 s ≡ runFrom budget 0 s
 run-starts budget s = let z : budget - 0 ≡ budget = omega arith in rw z
 
 -- what a step on a machine that is held says of itself
 abbrev pub Steps : List ℕ → List ℕ → Control → List ℕ → Executed → List ℕ → Type 0
-Steps regs memory k regs′ e memory′ = stepResult (held regs′ (e .control)) memory′ (e .outcome) ≡ fetchAndExecute (held regs k) memory
+Steps regs memory k regs′ e memory′ = stepResult (held regs′ (e .control)) memory′ (e .outcome) ≡ unnoted (fetchAndExecute (held regs k) memory)
 
-one-step : (regs memory regs′ memory′ : List ℕ) (k : Control) (e : Executed) → length memory ≡ memoryBytes
-    → Steps regs memory k regs′ e memory′ → stepOf (held regs k) memory ≡ stepResult (held regs′ (e .control)) memory′ (e .outcome)
-unfolding stepOf
-one-step regs memory regs′ memory′ k e right leads = simp (eq-eqb (length memory) memoryBytes right) (sym leads)
+module _ (regs memory regs′ memory′ : List ℕ) (k : Control) (e : Executed) (right : length memory ≡ memoryBytes) (leads : Steps regs memory k regs′ e memory′) where
+  abbrev next : StepResult
+  next = stepResult (held regs′ (e .control)) memory′ (e .outcome)
+
+  one-step : unnoted (stepOf (held regs k) memory) ≡ next
+  unfolding stepOf
+  one-step = simp (eq-eqb (length memory) memoryBytes right) (sym leads)
+
+  -- one that completes leaves note 0 as it is
+  whole-step : e .outcome ≡ Completed → stepOf (held regs k) memory ≡ next
+  whole-step completed =
+      bare-step (held regs k) memory (λ h. halted-not-completed (sym h ∙ (ap (λ (r : StepResult). r .outcome) one-step ∙ completed))) ∙ one-step
 
 turn : (left count : ℕ) (s : State) (r : StepResult) → stepOf (s .machine) (s .memory) ≡ r
     → runFrom (suc left) count s ≡ goOn (r .outcome) (r .state) count (runFrom left (count + 1) (r .state))
@@ -67,11 +76,17 @@ not-last : Last Completed → ⊥
 not-last = ⊎-elim (λ e. omega (arith, e)) (⊎-elim (λ e. omega (arith, e)) (λ e. omega (arith, e)))
 
 -- the run ends as such a step did
-last-step : (o : Outcome) (s : State) (count : ℕ) (rest : RunResult) → Last o → goOn o s count rest ≡ record { state = s; outcome = asRun o; count = count }
-last-step Completed s count rest last = absurd (not-last last)
-last-step Halted s count rest last = refl
-last-step (Stopped number) s count rest last = refl
-last-step (Refused r) s count rest last = refl
+abbrev ran : StepResult → ℕ → RunResult
+ran r count = runResult (r .state .machine) (r .state .memory) (asRun (r .outcome)) count
+
+last-step : (r : StepResult) (count : ℕ) (rest : RunResult) → Last (r .outcome) → unnotedRun (goOn (r .outcome) (r .state) count rest) ≡ ran (unnoted r) count
+last-step r count rest last = go (r .outcome) last
+  where
+    go : (o : Outcome) → Last o → unnotedRun (goOn o (r .state) count rest) ≡ ran (stepResult (withNote 0 (r .state .machine)) (r .state .memory) o) count
+    go Completed last = absurd (not-last last)
+    go Halted last = refl
+    go (Stopped number) last = refl
+    go (Refused q) last = refl
 
 -- what a run's last lines answer
 abbrev pub Ends : Machine → RunOutcome → ℕ → List ℕ → Control → RunOutcome → ℕ → Type 0
@@ -79,8 +94,8 @@ Ends m o n regs k outcome count = (m ≡ held regs k) × (o ≡ outcome) × (n �
 
 module _ (budget : ℕ) (m₀ : Machine) (memory₀ : List ℕ) (right₀ : length memory₀ ≡ memoryBytes) where
   answers : (m : Machine) (o : RunOutcome) (n : ℕ) (regs memory : List ℕ) (k : Control) (outcome : RunOutcome) (count : ℕ) → Ends m o n regs k outcome count
-      → runResult (held regs k) memory outcome count ≡ runFrom budget 0 (state m₀ memory₀)
-      → runResult m memory o n ≡ runOf budget m₀ memory₀
+      → runResult (held regs k) memory outcome count ≡ unnotedRun (runFrom budget 0 (state m₀ memory₀))
+      → runResult m memory o n ≡ unnotedRun (runOf budget m₀ memory₀)
   unfolding runOf
   answers m o n regs memory k outcome count ends done = simp (eq-eqb (length memory₀) memoryBytes right₀, ends .0, ends .1, ends .2) done
 
@@ -90,23 +105,24 @@ module _ (budget : ℕ) (m₀ : Machine) (memory₀ : List ℕ) (right₀ : leng
     from-start = left ∙ rw start
 
     pub run-spent : (m : Machine) (o : RunOutcome) (n : ℕ) → budget ≤ count → Ends m o n regs k Spent count
-        → runResult m memory o n ≡ runOf budget m₀ memory₀
+        → runResult m memory o n ≡ unnotedRun (runOf budget m₀ memory₀)
     unfolding runFrom
     run-spent m o n all ends =
         let z : budget - count ≡ 0 = omega arith in
-        answers m o n regs memory k Spent count ends (rw z at from-start)
+        answers m o n regs memory k Spent count ends (ap unnotedRun (rw z at from-start))
 
     -- one more turn, where the step doesn't complete
     pub run-ends : (m : Machine) (o : RunOutcome) (n : ℕ) (regs′ memory′ : List ℕ) (e : Executed) → count < budget → length memory ≡ memoryBytes
         → Steps regs memory k regs′ e memory′ → Last (e .outcome) → Ends m o n regs′ (e .control) (asRun (e .outcome)) count
-        → runResult m memory′ o n ≡ runOf budget m₀ memory₀
+        → runResult m memory′ o n ≡ unnotedRun (runOf budget m₀ memory₀)
     run-ends m o n regs′ memory′ e more right leads last ends =
         let t : budget - count ≡ suc (budget - (count + 1)) = omega arith in
-        let next = stepResult (held regs′ (e .control)) memory′ (e .outcome) in
+        let now = stepOf (held regs k) memory in
+        let came = one-step regs memory regs′ memory′ k e right leads in
         answers m o n regs′ memory′ (e .control) (asRun (e .outcome)) count ends
-        (sym (last-step (e .outcome) (next .state) count (runFrom (budget - (count + 1)) (count + 1) (next .state)) last)
-        ∙ (sym (turn (budget - (count + 1)) count (state (held regs k) memory) next (one-step regs memory regs′ memory′ k e right leads))
-        ∙ (rw t at from-start)))
+        (sym (ap (λ (r : StepResult). ran r count) came)
+        ∙ (sym (last-step now count (runFrom (budget - (count + 1)) (count + 1) (now .state)) (subst⁻¹ Last (ap (λ (r : StepResult). r .outcome) came) last))
+        ∙ ap unnotedRun (sym (turn (budget - (count + 1)) count (state (held regs k) memory) now refl) ∙ (rw t at from-start))))
 
 -- one more turn, where it completes
 pub run-again : (budget : ℕ) (regs memory regs′ memory′ : List ℕ) (k : Control) (count : ℕ) (e : Executed) (all : RunResult)
@@ -116,5 +132,5 @@ pub run-again : (budget : ℕ) (regs memory regs′ memory′ : List ℕ) (k : C
 run-again budget regs memory regs′ memory′ k count e all more right leads completed left =
     let t : budget - count ≡ suc (budget - (count + 1)) = omega arith in
     let next = stepResult (held regs′ (e .control)) memory′ (e .outcome) in
-    (rw completed at (sym (turn (budget - (count + 1)) count (state (held regs k) memory) next (one-step regs memory regs′ memory′ k e right leads))))
+    (rw completed at (sym (turn (budget - (count + 1)) count (state (held regs k) memory) next (whole-step regs memory regs′ memory′ k e right leads completed))))
     ∙ (rw t at left)

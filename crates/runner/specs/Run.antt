@@ -20,7 +20,7 @@ state m memory = record { machine = m; memory = memory }
 abbrev pub outcomeAt : State → Outcome
 outcomeAt s = stepOf (s .machine) (s .memory) .outcome
 
--- one step further; a state whose step doesn't complete stays as it is
+-- one step further. A state whose step doesn't complete stays as it is, but that HALT leaves its note
 abbrev pub nextState : State → State
 nextState s = stepOf (s .machine) (s .memory) .state
 

@@ -1,6 +1,7 @@
 // A run of a machine whose registers are lent and whose flags come by value. A
 // run and a step of a machine by value are made of it: they copy the registers
-// in and out as a whole, which is quicker than to hand a machine on.
+// in and out as a whole, which is quicker than to hand a machine on. The note
+// stays with them: what HALT sets it to stands where the PC then is.
 use super::runs::RunOutcome;
 use alu::Control;
 use alu::Status;
@@ -14,7 +15,7 @@ ghost use mathlib.Core.Path.{_≡_};
 ghost use Rattle.cpu.specs.Held.{held, Whole};
 ghost use Rattle.runner.specs.Run.{runResult, runOf};
 ghost use Rattle.runner.specs.Ends.{asRun};
-ghost use Rattle.runner.specs.Lent.{lent};
+ghost use Rattle.runner.specs.Lent.{lent, unnotedRun};
 
 // The flags after a run, how it ended, and the steps completed.
 pub struct RanLent {
@@ -50,7 +51,7 @@ fn ended(regs: &mut [u16; 16], k: Control, outcome: Outcome, count: u32) -> RanL
 // Steps until `budget` of them are completed or one doesn't complete.
 pub fn run_lent(regs: &mut [u16; 16], s: Status, memory: &mut [u8], budget: u32) -> RanLent
     requires { ⌜ Whole (now regs) ⌝ }
-    ensures { λ r. ⌜ runResult (lent (now (regs .exit)) (r .status)) (now (memory .exit)) (r .outcome) (r .count) ≡ runOf budget (lent (now (regs .entry)) s) (now (memory .entry)) ⌝ }
+    ensures { λ r. ⌜ runResult (lent (now (regs .exit)) (r .status)) (now (memory .exit)) (r .outcome) (r .count) ≡ unnotedRun (runOf budget (lent (now (regs .entry)) s) (now (memory .entry))) ⌝ }
 {
     if memory.len() != MEMORY_BYTES {
         return RanLent {

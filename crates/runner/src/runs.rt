@@ -1,5 +1,6 @@
 // A run of a machine by value.
 use super::lent::run_lent;
+use super::notes::note_left;
 use alu::Status;
 use cpu::Machine;
 use refusals::Refusal;
@@ -34,14 +35,16 @@ pub fn run(m: Machine, memory: &mut [u8], budget: u32) -> Ran
     };
     let e = run_lent(&mut regs, before, memory, budget);
     let after = e.status;
+    let outcome = e.outcome;
+    let note = note_left(outcome, memory, regs[15], m.note);
     let machine = Machine {
         regs,
         n: after.n,
         z: after.z,
         c: after.c,
         v: after.v,
+        note,
     };
-    let outcome = e.outcome;
     Ran {
         machine,
         outcome,

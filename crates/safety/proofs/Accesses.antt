@@ -53,7 +53,7 @@ formed (Strb offset rb rd) h = byte offset rb rd (h .1)
 formed (Ldrb offset rb rd) h = byte offset rb rd (h .1)
 formed (AddPc rd imm) h = none refl refl
 formed (Branch condition offset) h = none refl refl
-formed Halt h = none refl refl
+formed (Halt note) h = none refl refl
 
 -- an address between the bounds of a window in memory does not wrap
 in-window : (x low high offset size w l : ℕ) → low ≤ x → x ≤ high → 0 < size → w ≤ low + offset → high + offset + size ≤ w + l → w + l ≤ 65536

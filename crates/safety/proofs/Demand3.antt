@@ -1,7 +1,7 @@
 -- Demand 3, proved.
 use mathlib.Core.List.{List}
 use mathlib.Core.Logic.{inl, inr, ⊎-elim}
-use mathlib.Core.Path.{_≡_, refl, sym, _∙_, subst, subst⁻¹}
+use mathlib.Core.Path.{_≡_, refl, sym, ap, _∙_, subst, subst⁻¹}
 use Prim.Native.Nat.{ℕ, _+_, _*_, _/_, _%_, _≤_, _<_}
 use native.Mathlib.Omega.{arith}
 use borrow.Author.Tests.{eq-eqb}
@@ -26,9 +26,12 @@ use Rattle.safety.specs.Safety.{Start, HoldsCode, SafeState, EndsByHalt,
 use Rattle.safety.proofs.Fitness.{FitCode, fit-code}
 use Rattle.safety.proofs.Invariant.{Inv, HoldsHalfwords, arrive, fetched-is, safe-access, next}
 use Rattle.safety.proofs.Registers.{unknown-holds}
-use Rattle.cpu_laws.specs.Course.{EndsAs}
+use Rattle.cpu_laws.specs.Notes.{haltedState}
+use Rattle.cpu_laws.specs.Course.{EndsAs, finalState}
 use Rattle.cpu_laws.specs.Sizes.{Registers}
-use Rattle.cpu_laws.proofs.Course.{halted-other, run-course, run-keeps}
+use Rattle.cpu.proofs.Endings.{halted-not-completed}
+use Rattle.cpu_laws.proofs.Notes.{note-set}
+use Rattle.cpu_laws.proofs.Course.{run-course, run-keeps}
 use Rattle.safety.proofs.Loads.{was-fit, after-load, loaded-holds}
 use Rattle.safety.proofs.Twins.{same-runs}
 
@@ -84,13 +87,23 @@ module _ (file : List ℕ) (layout : Layout) (fit : FitCode (codeOf file) layout
   -- a step that completes keeps the invariant
   keeps : (memory : List ℕ) → HoldsCode file layout memory → (s : State) → Inv (codeOf file) layout memory s → outcomeAt s ≡ Completed → Inv (codeOf file) layout memory (nextState s)
   keeps memory h s inv e =
-      ⊎-elim (λ x. absurd (halted-other (sym (x .0) ∙ e))) (λ x. x .1) (next (codeOf file) layout memory fit (there memory h) s inv)
+      ⊎-elim (λ x. absurd (halted-not-completed (sym (x .0) ∙ e))) (λ x. x .1) (next (codeOf file) layout memory fit (there memory h) s inv)
+
+  -- what a run leaves at HALT stands on it and has its note
+  abbrev stands : State → Type 0
+  stands t = fetched (t .machine) (t .memory) ≡ Defined (Halt (t .machine .note))
 
   -- a run ends spent, or as the step after its last one does, which can only halt
   ending : (memory : List ℕ) (h : HoldsCode file layout memory) (s : State) → Inv (codeOf file) layout memory s → (o : RunOutcome) → EndsAs (outcomeAt s) o
-      → (o ≡ run.Halted) × (fetched (s .machine) (s .memory) ≡ Defined Halt)
+      → (o ≡ run.Halted) × stands (haltedState s)
+  unfolding fetched
   ending memory h s inv o e =
-      ⊎-elim (λ x. (subst (λ (a : Outcome). EndsAs a o) (x .0) e, x .1)) (λ x. absurd (subst (λ (a : Outcome). EndsAs a o) (x .0) e))
+      ⊎-elim
+      (λ x. (
+        subst (λ (a : Outcome). EndsAs a o) (x .0) e,
+        x .1 ∙ ap (λ (t : State). Defined (Halt (t .machine .note))) (note-set s (x .0)),
+      ))
+      (λ x. absurd (subst (λ (a : Outcome). EndsAs a o) (x .0) e))
       (next (codeOf file) layout memory fit (there memory h) s inv)
 
   safe-run : (memory : List ℕ) → HoldsCode file layout memory → (m : Machine) → Start m → (budget : ℕ) → SafeRun file layout m memory budget
@@ -106,7 +119,7 @@ module _ (file : List ℕ) (layout : Layout) (fit : FitCode (codeOf file) layout
       record {
         outcome = end .0;
         left = x .0;
-        halt = subst⁻¹ (λ (t : State). fetched (t .machine) (t .memory) ≡ Defined Halt) (course .last) (end .1);
+        halt = subst⁻¹ stands (course .last ∙ ap (λ (o : RunOutcome). finalState o (stateAfter (result .count) start)) (end .0)) (end .1);
       }
       in
       record {

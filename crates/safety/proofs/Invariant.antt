@@ -6,7 +6,7 @@ use mathlib.Core.Path.{_≡_, refl, sym, ap, _∙_, subst}
 use Prim.Native.Nat.{ℕ, suc, _+_, _*_, _/_, _%_, _<_}
 use native.Mathlib.Decide.{ℕ-discrete}
 use native.Mathlib.Omega.{arith}
-use borrow.Author.Tests.{eq-eqb, ltb-true, eqb-true}
+use borrow.Author.Tests.{eq-eqb, ltb-true}
 use lib.ListN.{length, getD}
 use Rattle.units.specs.Address.{wrap}
 use Rattle.units.specs.declared.address.ByteAddress.{ByteAddress}
@@ -29,13 +29,14 @@ use Rattle.cpu.specs.Machine.{pc}
 use Rattle.cpu.specs.Step.{State, StepResult, executeOf, fetched, stepOf}
 use Rattle.runner.specs.Run.{outcomeAt, nextState}
 use Rattle.cpu_laws.specs.Sizes.{Registers, Sized}
+use Rattle.cpu.proofs.Endings.{halted-not-completed}
 use Rattle.cpu_laws.proofs.Steps.{step-decoded}
-use Rattle.cpu_laws.proofs.Course.{halted-other}
 use Rattle.cpu_laws.proofs.Sizes.{step-sized}
 use Rattle.safety.specs.Safety.{InWindow, SafeAccess}
 use Rattle.safety.proofs.Registers.{HoldsBelow, Moved, standing-holds}
+use Rattle.isa_laws.proofs.Claims.{halt-notes}
 use Rattle.isa_laws.proofs.Narrow.{Narrow, decoded-narrow}
-use Rattle.safety.proofs.Steps.{Completes, step-case}
+use Rattle.safety.proofs.Steps.{IsHalt, Completes, step-case}
 use Rattle.safety.proofs.Accesses.{access-safe, data-in-window}
 use Rattle.safety.proofs.Touched.{execute-kept}
 use Rattle.verifier.proofs.Walk.{length-entering, length-values}
@@ -108,16 +109,18 @@ module _ (code : List ℕ) (layout : Layout) (start : List ℕ) (fit : FitCode c
     here-is : addressOf i ≡ record { 0 = pc m }
     here-is = ap (λ (a : ℕ). record { 0 = a }) (address-is i (inv .inside) ∙ sym (inv .here))
 
-    zero-halts : getD code i 0 ≡ 0 → ins ≡ Halt
+    small-halts : getD code i 0 < 256 → IsHalt ins
     unfolding decodedAt
-    zero-halts e = let d : Defined Halt ≡ Defined ins = sym (ap decodeOf e) ∙ fit .passed (inv .index) (inv .inside) .passes9 in cc
+    small-halts e =
+        let d : Defined (Halt (getD code i 0)) ≡ Defined ins = sym (halt-notes .all-below (getD code i 0) e) ∙ fit .passed (inv .index) (inv .inside) .passes9 in
+        (getD code i 0, cc)
 
     -- the last instruction is HALT
-    not-last : (ins ≡ Halt → ⊥) → suc i < length code
+    not-last : (IsHalt ins → ⊥) → suc i < length code
     not-last h = go (ℕ-discrete (suc i) (length code))
       where
         go : Dec (suc (inv .index) ≡ length code) → suc (inv .index) < length code
-        go (yes e) = absurd (h (zero-halts (eqb-true _ _ (simp (eq-eqb _ _ e) at (fit .passed (inv .index) (inv .inside) .passes14)))))
+        go (yes e) = absurd (h (small-halts (ltb-true _ _ (simp (eq-eqb _ _ e) at (fit .passed (inv .index) (inv .inside) .passes14)))))
         go (no n) = omega (arith, inv .inside)
 
     -- what a step has left, at instruction j
@@ -142,7 +145,7 @@ module _ (code : List ℕ) (layout : Layout) (start : List ℕ) (fit : FitCode c
         ∙ ap (λ (a : ByteAddress). transferOf a ins (valuesAt code i)) here-is
 
     -- by falling into the next instruction
-    fell : (ins ≡ Halt → ⊥) → Moved (transferOf (record { 0 = pc m }) ins (valuesAt code i)) regs′ (wrap (pc m + 2)) → Inv code layout start (executeOf ins m (s .memory) .state)
+    fell : (IsHalt ins → ⊥) → Moved (transferOf (record { 0 = pc m }) ins (valuesAt code i)) regs′ (wrap (pc m + 2)) → Inv code layout start (executeOf ins m (s .memory) .state)
     fell h moved =
         let j : suc i < length code = not-last h in
         arrived (suc i) j (omega (arith, moved .pc, inv .here, fit .short))
@@ -159,15 +162,15 @@ module _ (code : List ℕ) (layout : Layout) (start : List ℕ) (fit : FitCode c
         (λ f. absurd (false≢true (sym f ∙ hit)))
 
     -- a step of the run halts, where HALT is, or completes and leads to a state of the same kind
-    pub next : ((outcomeAt s ≡ Halted) × (fetched m (s .memory) ≡ Defined Halt)) ⊎ ((outcomeAt s ≡ Completed) × Inv code layout start (nextState s))
+    pub next : ((outcomeAt s ≡ Halted) × (fetched m (s .memory) ≡ Defined (Halt (nextState s .machine .note)))) ⊎ ((outcomeAt s ≡ Completed) × Inv code layout start (nextState s))
     unfolding executeOf
     next =
         rw (outcomeAt, nextState, step-is)
-        (⊎-elim (λ e. inl (rw e refl, fetched-is ∙ ap Defined e)) (λ c. inr (c .outcome, ⊎-elim (λ moved. fell (running c) moved) (λ j. branched (j .0) (j .1) (j .2 even) (j .3)) (c .moved)))
+        (⊎-elim (λ e. inl (rw (e .1) refl, fetched-is ∙ (rw (e .1) refl))) (λ c. inr (c .outcome, ⊎-elim (λ moved. fell (running c) moved) (λ j. branched (j .0) (j .1) (j .2 even) (j .3)) (c .moved)))
         (step-case (valuesAt code i) m (s .memory) (length-values code i) (inv .sized .registers) (inv .holds) (inv .sized .bytes) ins narrow
         (fit .passed (inv .index) (inv .inside) .passes12) (safe-access .aligned)))
       where
         running : Completes (valuesAt code (inv .index)) (fit .passed (inv .index) (inv .inside) .instruction) (s .machine) (executeOf (fit .passed (inv .index) (inv .inside) .instruction) (s .machine) (s .memory))
-            → fit .passed (inv .index) (inv .inside) .instruction ≡ Halt → ⊥
+            → IsHalt (fit .passed (inv .index) (inv .inside) .instruction) → ⊥
         running c e =
-            halted-other (ap (λ (j : Instruction). executeOf j (s .machine) (s .memory) .outcome) (sym e) ∙ c .outcome)
+            halted-not-completed (ap (λ (j : Instruction). executeOf j (s .machine) (s .memory) .outcome) (sym (e .1)) ∙ c .outcome)

@@ -25,7 +25,7 @@ use Rattle.checks.specs.State.{State, value, transferOf}
 use Rattle.cpu.specs.declared.machine.Machine.{Machine}
 use Rattle.cpu.specs.declared.outcome.Outcome.the-variants.{Completed}
 use Rattle.alu.specs.Flags.{Flags}
-use Rattle.cpu.specs.Machine.{reg, pc, flags, machine, advanced, written}
+use Rattle.cpu.specs.Machine.{reg, pc, flags, updated, advanced, written}
 use Rattle.alu.specs.Alu.{negative, shiftOf, conditionOf}
 use Rattle.cpu.specs.Step.{StepResult, completed, effectiveAddress, executeOf, addHighOf, addPcOf, andOf, asrOf, branchOf, cmpImmOf, cmpOf, cmpHighOf, eorOf, ldrOf, ldrbOf, movImmOf, movHighOf, negOf, strOf, strbOf, tstOf}
 use Rattle.cpu_laws.specs.Sizes.{Registers, Bytes}
@@ -47,6 +47,10 @@ shift-less a k h =
 
 -- ---- one instruction
 
+-- HALT with some note
+abbrev pub IsHalt : Instruction → Type 0
+IsHalt i = (note : ℕ) × (i ≡ Halt note)
+
 -- a completed step: the values move on as the transfer says, to the next instruction or to where it jumps
 pub record Completes (s : State) (i : Instruction) (m : Machine) (r : StepResult) : Type 0 where
   pub outcome : r .outcome ≡ Completed
@@ -62,11 +66,11 @@ module _ (s : State) (m : Machine) (memory : List ℕ) (long : length s ≡ 16) 
 
   -- an instruction that writes x, of which v holds, into Rd
   writes : (i : Instruction) (rd x : ℕ) (v : Value) (f : Flags) → rd < 15 → Holds v x → transferOf (record { 0 = pc m }) i s ≡ set s rd v
-      → Completes s i m (completed (machine (written (m .regs) rd x) f) memory)
+      → Completes s i m (completed (updated m (written (m .regs) rd x) f) memory)
   writes i rd x v f hd hv e = record { outcome = refl; moved = inl (rw e (wrote s (m .regs) rd x v hd long sized below hv)) }
 
   -- one that writes no register
-  passes : (i : Instruction) (f : Flags) (after : List ℕ) → transferOf (record { 0 = pc m }) i s ≡ s → Completes s i m (completed (machine (advanced (m .regs)) f) after)
+  passes : (i : Instruction) (f : Flags) (after : List ℕ) → transferOf (record { 0 = pc m }) i s ≡ s → Completes s i m (completed (updated m (advanced (m .regs)) f) after)
   passes i f after e = record { outcome = refl; moved = inl (rw e (on s (m .regs) sized below)) }
 
   -- a load or store of a halfword is aligned
@@ -85,14 +89,14 @@ module _ (s : State) (m : Machine) (memory : List ℕ) (long : length s ≡ 16) 
       go false = omega arith
 
   branch-case : (condition offset : ℕ) (t : Bool)
-      → Completes s (Branch condition offset) m (completed (machine (cond t (set (m .regs) 15 (branchTargetOf (record { 0 = pc m }) offset .0)) (advanced (m .regs))) (flags m)) memory)
+      → Completes s (Branch condition offset) m (completed (updated m (cond t (set (m .regs) 15 (branchTargetOf (record { 0 = pc m }) offset .0)) (advanced (m .regs))) (flags m)) memory)
   branch-case condition offset true =
       record { outcome = refl; moved = inr (branchTargetOf (record { 0 = pc m }) offset, refl, target-even (pc m) offset, jumped s (m .regs) _ sized below) }
   branch-case condition offset false = passes (Branch condition offset) (flags m) memory refl
 
   -- every instruction but HALT, where check 12 has passed and its data are aligned
   pub step-case : (i : Instruction) → Narrow i → check12 i ≡ true → (accessOf i .size ≡ 2 → dataAddress m (accessOf i) % 4 ≡ 0)
-      → (i ≡ Halt) ⊎ Completes s i m (executeOf i m memory)
+      → IsHalt i ⊎ Completes s i m (executeOf i m memory)
   unfolding executeOf movImmOf cmpImmOf andOf eorOf asrOf tstOf negOf cmpOf addHighOf cmpHighOf movHighOf strOf ldrOf strbOf ldrbOf addPcOf branchOf
   step-case (MovImm rd imm) h k a = inr (writes (MovImm rd imm) rd imm _ _ (omega (arith, h .0)) (exactly-sound imm (omega (arith, h .1))) refl)
   step-case (CmpImm rd imm) h k a = inr (passes (CmpImm rd imm) _ memory refl)
@@ -114,4 +118,4 @@ module _ (s : State) (m : Machine) (memory : List ℕ) (long : length s ≡ 16) 
   step-case (Ldrb offset rb rd) h k a = inr (writes (Ldrb offset rb rd) rd _ _ _ (omega (arith, h .2)) (byte-sound _ (bytes .below _)) refl)
   step-case (AddPc rd imm) h k a = inr (writes (AddPc rd imm) rd (pcSum (record { 0 = pc m }) imm) _ _ (omega (arith, h .0)) (exactly-sound (pcSum (record { 0 = pc m }) imm) (omega arith)) refl)
   step-case (Branch condition offset) h k a = inr (branch-case condition offset (conditionOf condition (flags m)))
-  step-case Halt h k a = inl refl
+  step-case (Halt note) h k a = inl (note, refl)

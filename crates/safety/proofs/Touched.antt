@@ -21,10 +21,10 @@ use Rattle.checks.specs.Access.{Access, halfwordAccess, accessOf}
 use Rattle.cpu.specs.declared.machine.Machine.{Machine}
 use Rattle.cpu.specs.declared.outcome.Outcome.{Outcome}
 use Rattle.cpu.specs.declared.outcome.Outcome.the-variants.{Refused}
-use Rattle.cpu.specs.Machine.{reg, pc, flags, machine, advanced, written}
+use Rattle.cpu.specs.Machine.{reg, pc, flags, updated, advanced, written}
 use Rattle.cpu.specs.Step.{StepResult, stepResult, completed, stopped, effectiveAddress, aligned, executeOf, executeDecoded, fetched, fetchAndExecute, stepOf, ldrOf, ldrbOf, strOf, strbOf}
 use Rattle.isa_laws.proofs.Narrow.{decoded-narrow}
-use Rattle.cpu_laws.proofs.Steps.{cond-keeps}
+use Rattle.cpu.proofs.Endings.{cond-keeps}
 use Rattle.safety.specs.Touched.{InData, DataInMemory, Keeps, StepKeeps, Agrees, Alike, StepAlike}
 use Rattle.safety.proofs.Accesses.{formed}
 use Rattle.safety.proofs.Lists.{set-alike}
@@ -63,7 +63,7 @@ module _ (m : Machine) (memory : List ℕ) where
     where
       go : (t : Bool) → aligned (effectiveAddress m rb (4 * offset)) ≡ t
           → Kept m (halfwordAccess offset rb) memory
-          (cond t (completed (machine (advanced (m .regs)) (flags m)) (withHalfword memory (effectiveAddress m rb (4 * offset)) (reg m rd)))
+          (cond t (completed (updated m (advanced (m .regs)) (flags m)) (withHalfword memory (effectiveAddress m rb (4 * offset)) (reg m rd)))
           (stopped 20 m memory) .state .memory)
       go true e =
           let a : ℕ = effectiveAddress m rb (4 * offset) in
@@ -82,7 +82,7 @@ module _ (m : Machine) (memory : List ℕ) where
   unfolding ldrOf
   ldr-kept offset rb rd =
       cond-keeps (Leaves (halfwordAccess offset rb)) (aligned (effectiveAddress m rb (4 * offset)))
-      (completed (machine (written (m .regs) rd (halfwordAt memory (effectiveAddress m rb (4 * offset)))) (flags m)) memory)
+      (completed (updated m (written (m .regs) rd (halfwordAt memory (effectiveAddress m rb (4 * offset)))) (flags m)) memory)
       (stopped 20 m memory) same same
 
   pub execute-kept : (i : Instruction) → Leaves (accessOf i) (executeOf i m memory)
@@ -110,7 +110,7 @@ module _ (m : Machine) (memory : List ℕ) where
   execute-kept (Ldrb offset rb rd) = same
   execute-kept (AddPc rd imm) = same
   execute-kept (Branch condition offset) = same
-  execute-kept Halt = same
+  execute-kept (Halt note) = same
 
   still : (outcome : Outcome) → Keeps m memory (stepResult m memory outcome)
   still outcome = record { size = refl; others = λ a out. refl }
@@ -143,8 +143,8 @@ module _ (m : Machine) (memory other : List ℕ) (long : length memory ≡ lengt
 
   -- a load of the same data
   loads : (rd x y : ℕ) → x ≡ y
-      → Alike memory other (completed (machine (written (m .regs) rd x) (flags m)) memory) (completed (machine (written (m .regs) rd y) (flags m)) other)
-  loads rd x y e = record { machine = ap (λ (z : ℕ). machine (written (m .regs) rd z) (flags m)) e; outcome = refl; bytes = λ a h. h }
+      → Alike memory other (completed (updated m (written (m .regs) rd x) (flags m)) memory) (completed (updated m (written (m .regs) rd y) (flags m)) other)
+  loads rd x y e = record { machine = ap (λ (z : ℕ). updated m (written (m .regs) rd z) (flags m)) e; outcome = refl; bytes = λ a h. h }
 
   abbrev SameData : Access → Type 0
   SameData access = (a : ℕ) → InData m access a → byteAt memory a ≡ byteAt other a
@@ -154,8 +154,8 @@ module _ (m : Machine) (memory other : List ℕ) (long : length memory ≡ lengt
   str-alike offset rb rd = go (aligned (effectiveAddress m rb (4 * offset)))
     where
       go : (t : Bool) → Alike memory other
-          (cond t (completed (machine (advanced (m .regs)) (flags m)) (withHalfword memory (effectiveAddress m rb (4 * offset)) (reg m rd))) (stopped 20 m memory))
-          (cond t (completed (machine (advanced (m .regs)) (flags m)) (withHalfword other (effectiveAddress m rb (4 * offset)) (reg m rd))) (stopped 20 m other))
+          (cond t (completed (updated m (advanced (m .regs)) (flags m)) (withHalfword memory (effectiveAddress m rb (4 * offset)) (reg m rd))) (stopped 20 m memory))
+          (cond t (completed (updated m (advanced (m .regs)) (flags m)) (withHalfword other (effectiveAddress m rb (4 * offset)) (reg m rd))) (stopped 20 m other))
       go true =
           let a : ℕ = effectiveAddress m rb (4 * offset) in
           let x : ℕ = reg m rd in
@@ -172,8 +172,8 @@ module _ (m : Machine) (memory other : List ℕ) (long : length memory ≡ lengt
   ldr-alike offset rb rd agree = go (aligned (effectiveAddress m rb (4 * offset))) refl
     where
       go : (t : Bool) → aligned (effectiveAddress m rb (4 * offset)) ≡ t → Alike memory other
-          (cond t (completed (machine (written (m .regs) rd (halfwordAt memory (effectiveAddress m rb (4 * offset)))) (flags m)) memory) (stopped 20 m memory))
-          (cond t (completed (machine (written (m .regs) rd (halfwordAt other (effectiveAddress m rb (4 * offset)))) (flags m)) other) (stopped 20 m other))
+          (cond t (completed (updated m (written (m .regs) rd (halfwordAt memory (effectiveAddress m rb (4 * offset)))) (flags m)) memory) (stopped 20 m memory))
+          (cond t (completed (updated m (written (m .regs) rd (halfwordAt other (effectiveAddress m rb (4 * offset)))) (flags m)) other) (stopped 20 m other))
       go true e =
           let a : ℕ = effectiveAddress m rb (4 * offset) in
           let d : a % 4 ≡ 0 = eqb-true _ _ e in
@@ -209,7 +209,7 @@ module _ (m : Machine) (memory other : List ℕ) (long : length memory ≡ lengt
       (agree (effectiveAddress m rb offset) (record { aligned = λ s. absurd (omega (arith, s)); from = omega arith; below = omega arith }))
   execute-alike (AddPc rd imm) agree = alone _ _
   execute-alike (Branch condition offset) agree = alone _ _
-  execute-alike Halt agree = alone _ _
+  execute-alike (Halt note) agree = alone _ _
 
 module _ (m : Machine) (memory other : List ℕ) (agrees : Agrees m memory other) where
   -- both fetch the same

@@ -17,7 +17,7 @@ use Rattle.safety.proofs.Fitness.{FitCode}
 use Rattle.safety.proofs.Invariant.{Inv, HoldsHalfwords, step-is, safe-access, next}
 use Rattle.safety.proofs.Accesses.{data-in-window}
 use Rattle.safety.proofs.Touched.{execute-alike}
-use Rattle.cpu_laws.proofs.Course.{halted-other}
+use Rattle.cpu.proofs.Endings.{halted-not-completed}
 
 -- two states with the same machine and window
 pub record Twin (layout : Layout) (s t : State) : Type 0 where
@@ -52,7 +52,7 @@ module _ (code : List ℕ) (layout : Layout) (fit : FitCode code layout) (start 
       ⊎-elim
       (λ h. rw (h .0, sym (a .outcome) ∙ h .0) record { machine = a .machine; window = window; outcome = refl; count = refl })
       (λ h. ⊎-elim
-      (λ k. absurd (halted-other (sym (k .0) ∙ sym (a .outcome) ∙ h .0)))
+      (λ k. absurd (halted-not-completed (sym (k .0) ∙ sym (a .outcome) ∙ h .0)))
       (λ k. rw (h .0, k .0) (same-runs left (count + 1) (nextState s) (nextState t) (h .1) (k .1) record { machine = a .machine; window = window }))
       (next code layout other fit there′ t q))
       (next code layout start fit there s p)

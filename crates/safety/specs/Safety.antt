@@ -19,11 +19,12 @@ use Rattle.runner.specs.declared.runs.RunOutcome.the-variants as run
 use Rattle.cpu.specs.Machine.{reg, pc}
 use Rattle.cpu.specs.Step.{State, fetched}
 use Rattle.runner.specs.Run.{RunResult, state, outcomeAt, stateAfter, runOf}
+use Rattle.cpu_laws.specs.Course.{finalState}
 use Rattle.loader.specs.Load.{codeByte, loadOf, memoryAfterLoad}
 use Rattle.loader.specs.declared.loader.Loaded.the-variants.{Done}
 use Rattle.safety.specs.Touched.{dataAddress}
 
--- a start: any registers of 16 bits and any flags, the PC at 0
+-- a start: any registers of 16 bits, any flags and any note, the PC at 0
 pub record Start (m : Machine) : Type 0 where
   pub sixteen : length (m .regs) ≡ 16
   pub halfwords : (r : ℕ) → reg m r < 65536
@@ -60,30 +61,30 @@ pub record SafeState (layout : Layout) (memory : List ℕ) (s : State) : Type 0 
 abbrev pub SameWindow : Layout → List ℕ → List ℕ → Type 0
 SameWindow layout memory other = (a : ℕ) → InWindow layout a 1 → byteAt memory a ≡ byteAt other a
 
--- two runs have the same registers, flags, window, ending and count
+-- two runs have the same registers, flags, note, window, ending and count
 pub record SameResult (layout : Layout) (r q : RunResult) : Type 0 where
   pub machine : r .state .machine ≡ q .state .machine
   pub window : SameWindow layout (r .state .memory) (q .state .memory)
   pub outcome : r .outcome ≡ q .outcome
   pub count : r .count ≡ q .count
 
--- a run ends by HALT, which its last state fetches with some of the budget left
+-- a run ends by HALT, which its last state fetches with some of the budget left, and whose note the machine then has
 pub record EndsByHalt (budget : ℕ) (r : RunResult) : Type 0 where
   pub outcome : r .outcome ≡ run.Halted
   pub left : r .count < budget
-  pub halt : fetched (r .state .machine) (r .state .memory) ≡ Defined Halt
+  pub halt : fetched (r .state .machine) (r .state .memory) ≡ Defined (Halt (r .state .machine .note))
 
 -- or it ends spent, when as many steps are completed as the budget has
 pub record EndsSpent (budget : ℕ) (r : RunResult) : Type 0 where
   pub outcome : r .outcome ≡ run.Spent
   pub all : r .count ≡ budget
 
--- a whole run: each state is safe, from the start to the last, and each but the last completes its step; it ends by HALT or spent; and nothing
--- outside code and window has a part in it
+-- a whole run: each state is safe, from the start to the last, and each but the last completes its step; the run leaves the last as it is, but for the
+-- note if it ends by HALT; it ends by HALT or spent; and nothing outside code and window has a part in it
 pub record SafeRun (file : List ℕ) (layout : Layout) (m : Machine) (memory : List ℕ) (budget : ℕ) : Type 0 where
   pub states : (k : ℕ) → k ≤ runOf budget m memory .count → SafeState layout memory (stateAfter k (state m memory))
   pub completed : (k : ℕ) → k < runOf budget m memory .count → outcomeAt (stateAfter k (state m memory)) ≡ step.Completed
-  pub last : runOf budget m memory .state ≡ stateAfter (runOf budget m memory .count) (state m memory)
+  pub last : runOf budget m memory .state ≡ finalState (runOf budget m memory .outcome) (stateAfter (runOf budget m memory .count) (state m memory))
   pub ends : EndsByHalt budget (runOf budget m memory) ⊎ EndsSpent budget (runOf budget m memory)
   pub alike : (other : List ℕ) → HoldsCode file layout other → SameWindow layout memory other
       → SameResult layout (runOf budget m memory) (runOf budget m other)

@@ -54,7 +54,7 @@ pub record Agrees (m : Machine) (memory other : List ℕ) : Type 0 where
   pub fetch : (a : ℕ) → Fetches m a → byteAt memory a ≡ byteAt other a
   pub access : (a : ℕ) → Accesses m memory a → byteAt memory a ≡ byteAt other a
 
--- two steps with the same registers, flags and ending after them. Each byte in which the memories were the same before, the data among them, is the
+-- two steps with the same registers, flags, note and ending after them. Each byte in which the memories were the same before, the data among them, is the
 -- same in both afterwards
 pub record Alike (memory other : List ℕ) (r q : StepResult) : Type 0 where
   pub machine : r .state .machine ≡ q .state .machine

@@ -3,6 +3,7 @@ use alu::Status;
 use cpu::Machine;
 use cpu::Outcome;
 use runner::RunOutcome;
+use runner::note_left;
 use runner::run_lent;
 ghost use mathlib.Core.Path.{_≡_};
 ghost use Rattle.cpu.specs.Step.{stepResult, stepOf};
@@ -41,14 +42,16 @@ pub fn step_value(m: Machine, memory: &mut [u8]) -> Stepped
     };
     let e = run_lent(&mut regs, before, memory, 1);
     let after = e.status;
+    let outcome = e.outcome;
+    let note = note_left(outcome, memory, regs[15], m.note);
     let machine = Machine {
         regs,
         n: after.n,
         z: after.z,
         c: after.c,
         v: after.v,
+        note,
     };
-    let outcome = e.outcome;
     Stepped {
         machine,
         outcome: step_outcome(outcome),

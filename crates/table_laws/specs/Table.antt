@@ -11,18 +11,17 @@ use Rattle.isa.specs.Decode.{decodeOf}
 use Rattle.isa.specs.declared.decoder.Decoded.the-variants.{Defined, Undefined}
 use Rattle.isa.specs.declared.instruction.Instruction.the-variants.{CmpHigh, Halt}
 use Rattle.alu.specs.Flags.{Flags}
-use Rattle.cpu.specs.Machine.{pc, machine}
-use Rattle.cpu.specs.Step.{stepResult, completed, stepOf}
+use Rattle.cpu.specs.Machine.{pc, machine, withNote}
+use Rattle.cpu.specs.Step.{StepResult, stepResult, completed, stopped, stepOf}
 use Rattle.cpu.specs.declared.machine.Machine.{Machine}
-use Rattle.cpu.specs.declared.outcome.Outcome.{Outcome}
-use Rattle.cpu.specs.declared.outcome.Outcome.the-variants.{Halted, Stopped}
+use Rattle.cpu.specs.declared.outcome.Outcome.the-variants.{Halted}
 use Rattle.packer.specs.Pack.{imageOf}
 use Rattle.verifier.specs.Verify.{verifyOf}
 use Rattle.verifier.specs.declared.verifier.Verdict.the-variants.{Fit, Refused}
 
--- a machine with R0, R1, the PC and the flags given, and zeros elsewhere
-abbrev pub machineWith : ℕ → ℕ → ℕ → Flags → Machine
-machineWith r0 r1 at f = machine (r0 ∷ r1 ∷ (replicate 13 0 ++ (at ∷ []))) f
+-- a machine with R0, R1, the PC, the flags and the note given, and zeros elsewhere
+abbrev pub machineWith : ℕ → ℕ → ℕ → Flags → ℕ → Machine
+machineWith r0 r1 at f note = machine (r0 ∷ r1 ∷ (replicate 13 0 ++ (at ∷ []))) f note
 
 abbrev pub nzcv : Bool → Bool → Bool → Bool → Flags
 nzcv n z c v = record { n = n; z = z; c = c; v = v }
@@ -36,32 +35,37 @@ pub record StandsOn (h : ℕ) (m : Machine) (memory : List ℕ) : Type 0 where
 abbrev pub Gives : ℕ → Machine → Machine → Type 0
 Gives h before after = (memory : List ℕ) → StandsOn h before memory → stepOf before memory ≡ completed after memory
 
--- a step on h, whatever the machine, ends so and changes nothing
-abbrev pub Stays : ℕ → Outcome → Type 0
-Stays h outcome = (m : Machine) (memory : List ℕ) → pc m % 2 ≡ 0 → StandsOn h m memory → stepOf m memory ≡ stepResult m memory outcome
+-- what a step on h does, whatever the machine
+abbrev pub Does : ℕ → (Machine → List ℕ → StepResult) → Type 0
+Does h result = (m : Machine) (memory : List ℕ) → pc m % 2 ≡ 0 → StandsOn h m memory → stepOf m memory ≡ result m memory
 
--- h is no instruction, and a step on it is stop 19
+-- h is HALT with a note (Change 1), and a step on it sets that and changes nothing else
+abbrev pub HaltsWith : ℕ → ℕ → Type 0
+HaltsWith h note = (decodeOf h ≡ Defined (Halt note)) × Does h (λ m memory. stepResult (withNote note m) memory Halted)
+
+-- h is no instruction, and a step on it is stop 19, which changes nothing
 abbrev pub NoInstruction : ℕ → Type 0
-NoInstruction h = (decodeOf h ≡ Undefined) × Stays h (Stopped 19)
+NoInstruction h = (decodeOf h ≡ Undefined) × Does h (stopped 19)
 
 -- the code P, whose first halfword is given
 abbrev pub codeP : ℕ → List ℕ
 codeP first = first ∷ 0x4008 ∷ 0x2280 ∷ 0x4412 ∷ 0x4410 ∷ 0x6001 ∷ 0x0000 ∷ []
 
--- the instructions' rows hold with any flags before: NEG R0, R1 is 0x4108, CMP R0, #1 is 0x2801, ADD R0, R1 is 0x4408, ASR R0, R1 is 0x4088
+-- the instructions' rows hold with any flags and any note before, and the note stays: NEG R0, R1 is 0x4108, CMP R0, #1 is 0x2801, ADD R0, R1 is
+-- 0x4408, ASR R0, R1 is 0x4088
 pub record StarredRows : Type 0 where
-  pub row-0000 : (decodeOf 0x0000 ≡ Defined Halt) × Stays 0x0000 Halted
-  pub row-0001 : NoInstruction 0x0001
+  pub row-0000 : HaltsWith 0x0000 0
+  pub row-0001 : HaltsWith 0x0001 1
   pub row-4500 : NoInstruction 0x4500
   pub row-4540 : decodeOf 0x4540 ≡ Defined (CmpHigh 8 0)
   pub row-DE00 : NoInstruction 0xDE00
-  pub neg-8000 : (f : Flags) → Gives 0x4108 (machineWith 0 0x8000 0 f) (machineWith 0x8000 0x8000 2 (nzcv true false false true))
-  pub neg-0 : (f : Flags) → Gives 0x4108 (machineWith 5 0 0 f) (machineWith 0 0 2 (nzcv false true true false))
-  pub cmp-8000-1 : (f : Flags) → Gives 0x2801 (machineWith 0x8000 0 0 f) (machineWith 0x8000 0 2 (nzcv false false true true))
-  pub add-FFFF-1 : (f : Flags) → Gives 0x4408 (machineWith 0xFFFF 1 0 f) (machineWith 0 1 2 (nzcv false true true false))
-  pub asr-by-16 : (f : Flags) → Gives 0x4088 (machineWith 0x8000 16 0 f) (machineWith 0xFFFF 16 2 (nzcv true false true (f .v)))
-  pub asr-by-0100 : (f : Flags) → Gives 0x4088 (machineWith 0x8000 0x0100 0 f) (machineWith 0x8000 0x0100 2 (nzcv true false (f .c) (f .v)))
-  pub row-A001 : (f : Flags) → Gives 0xA001 (machineWith 0 0 6 f) (machineWith 8 0 8 f)
+  pub neg-8000 : (f : Flags) (note : ℕ) → Gives 0x4108 (machineWith 0 0x8000 0 f note) (machineWith 0x8000 0x8000 2 (nzcv true false false true) note)
+  pub neg-0 : (f : Flags) (note : ℕ) → Gives 0x4108 (machineWith 5 0 0 f note) (machineWith 0 0 2 (nzcv false true true false) note)
+  pub cmp-8000-1 : (f : Flags) (note : ℕ) → Gives 0x2801 (machineWith 0x8000 0 0 f note) (machineWith 0x8000 0 2 (nzcv false false true true) note)
+  pub add-FFFF-1 : (f : Flags) (note : ℕ) → Gives 0x4408 (machineWith 0xFFFF 1 0 f note) (machineWith 0 1 2 (nzcv false true true false) note)
+  pub asr-by-16 : (f : Flags) (note : ℕ) → Gives 0x4088 (machineWith 0x8000 16 0 f note) (machineWith 0xFFFF 16 2 (nzcv true false true (f .v)) note)
+  pub asr-by-0100 : (f : Flags) (note : ℕ) → Gives 0x4088 (machineWith 0x8000 0x0100 0 f note) (machineWith 0x8000 0x0100 2 (nzcv true false (f .c) (f .v)) note)
+  pub row-A001 : (f : Flags) (note : ℕ) → Gives 0xA001 (machineWith 0 0 6 f note) (machineWith 8 0 8 f note)
   pub p-256 : verifyOf (imageOf (codeP 0x21FC) 256 256) ≡ Fit (record { «code_bytes» = 14; «window_start» = 256; «window_length» = 256 })
   pub p-252 : verifyOf (imageOf (codeP 0x21FC) 256 252) ≡ Refused (refusalAt 10 (record { 0 = 10 }))
   pub p-21FD : verifyOf (imageOf (codeP 0x21FD) 256 256) ≡ Refused (refusalAt 11 (record { 0 = 10 }))

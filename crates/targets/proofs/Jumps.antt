@@ -1,6 +1,6 @@
 -- A halfword is a branch exactly when its upper byte is from 208 to 221.
 use mathlib.Core.Bool.{Bool, true, false}
-use mathlib.Core.List.{List, [], _∷_}
+use mathlib.Core.List.{List}
 use mathlib.Core.Path.{_≡_, refl}
 use Prim.Native.Nat.{ℕ, zero, suc, _+_, _*_, _/_, _%_, _≤_, _<_}
 use native.Mathlib.Omega.{arith}
@@ -12,6 +12,7 @@ use Rattle.isa.specs.Decode.{entry, only, immTable, aluTable, aluOf, highTable,
 use Rattle.isa.specs.declared.decoder.Decoded.{Decoded}
 use Rattle.isa.specs.declared.decoder.Decoded.the-variants.{Defined}
 use Rattle.isa.specs.declared.instruction.Instruction.the-variants.{CmpHigh, AddPc, Branch, Halt}
+use Rattle.isa.proofs.Table.{All, entry-keeps, only-keeps}
 use Rattle.targets.specs.Targets.{jumpAt}
 use Rattle.targets.specs.declared.branch.Target.the-variants.{Nowhere}
 
@@ -44,26 +45,19 @@ module _ (a : ByteAddress) where
   abbrev Still : Decoded → Type 0
   Still d = jumpAt a d ≡ Nowhere
 
-  abbrev AllStill : List Decoded → Type 0
-  AllStill [] = Unit
-  AllStill (d ∷ ds) = Still d × AllStill ds
-
-  still-entry : (ds : List Decoded) → AllStill ds → (n : ℕ) → Still (entry ds n)
-  still-entry [] s n = refl
-  still-entry (d ∷ ds) s zero = s .0
-  still-entry (d ∷ ds) s (suc n) = still-entry ds (s .1) n
+  still-entry : (ds : List Decoded) (n : ℕ) → All Still ds → Still (entry ds n)
+  still-entry = entry-keeps Still refl
 
   still-only : (t : Bool) (d : Decoded) → Still d → Still (only t d)
-  still-only true d s = s
-  still-only false d s = refl
+  still-only = only-keeps Still refl
 
   module _ (h : ℕ) where
     still-alu : Still (aluOf h)
-    still-alu = still-entry (aluTable h) (refl, (refl, (refl, (refl, (refl, (refl, tt)))))) (field h 6 4)
+    still-alu = still-entry (aluTable h) (field h 6 4) (refl, (refl, (refl, (refl, (refl, (refl, tt))))))
 
     still-high : Still (highOf h)
     still-high =
-        still-entry (highTable h) (refl, (still-only (ltb 0 (field h 6 2)) (Defined (CmpHigh (highRs h) (highRd h))) refl, (refl, tt))) (field h 8 2)
+        still-entry (highTable h) (field h 8 2) (refl, (still-only (ltb 0 (field h 6 2)) (Defined (CmpHigh (highRs h) (highRd h))) refl, (refl, tt)))
 
     -- a branch that the upper byte rules out
     still-branch : field h 13 3 ≡ 6 → ((208 ≤ field h 8 8) → (field h 8 8 ≤ 221) → ⊥) → Still (branchOf h)
@@ -81,10 +75,10 @@ module _ (a : ByteAddress) where
 
     -- the formats, by the top three bits
     still-table : (n : ℕ) → n ≡ field h 13 3 → ((208 ≤ field h 8 8) → (field h 8 8 ≤ 221) → ⊥) → Still (entry (table h) n)
-    still-table zero e out = still-only (eqb h 0) (Defined Halt) refl
-    still-table (suc zero) e out = still-entry (immTable h) (refl, (refl, tt)) (field h 11 2)
-    still-table (suc (suc zero)) e out = still-entry (registersTable h) (still-alu, (still-high, tt)) (field h 10 3)
-    still-table (suc (suc (suc zero))) e out = still-entry (memoryTable h) (refl, (refl, (refl, (refl, tt)))) (field h 11 2)
+    still-table zero e out = still-only (ltb h 256) (Defined (Halt (field h 0 8))) refl
+    still-table (suc zero) e out = still-entry (immTable h) (field h 11 2) (refl, (refl, tt))
+    still-table (suc (suc zero)) e out = still-entry (registersTable h) (field h 10 3) (still-alu, (still-high, tt))
+    still-table (suc (suc (suc zero))) e out = still-entry (memoryTable h) (field h 11 2) (refl, (refl, (refl, (refl, tt))))
     still-table (suc (suc (suc (suc zero)))) e out = refl
     still-table (suc (suc (suc (suc (suc zero))))) e out = still-only (eqb (field h 11 2) 0) (Defined (AddPc (field h 8 3) (field h 0 8))) refl
     still-table (suc (suc (suc (suc (suc (suc zero)))))) e out = still-branch (omega arith) out

@@ -25,4 +25,4 @@ jumpOf a (Strb offset rb rd) = Nowhere
 jumpOf a (Ldrb offset rb rd) = Nowhere
 jumpOf a (AddPc rd imm) = Nowhere
 jumpOf a (Branch condition offset) = To (branchTargetOf a offset)
-jumpOf a Halt = Nowhere
+jumpOf a (Halt note) = Nowhere

@@ -5,9 +5,10 @@ use mathlib.Core.Path.{_≡_, refl, sym, ap, _∙_}
 use Prim.Native.Nat.{ℕ, zero, suc, _<_}
 use native.Mathlib.Omega.{arith}
 use borrow.Author.Tests.{eq-eqb, ne-eqb}
-use lib.Dec.{eqb}
+use lib.Dec.{eqb, ltb}
 use lib.ListN.{length, getD, length-set}
 use Rattle.refusals.specs.Refusal.{refusalAt}
+use Rattle.units.specs.Field.{field}
 use Rattle.units.specs.declared.address.ByteAddress.{ByteAddress}
 use Rattle.refusals.specs.declared.refusal.Refusal.{Refusal}
 use Rattle.isa.specs.Decode.{only, haltOf, decodeOf}
@@ -54,7 +55,7 @@ length-transfer a (Strb offset rb rd) s = refl
 length-transfer a (Ldrb offset rb rd) s = length-set s _ _
 length-transfer a (AddPc rd imm) s = length-set s _ _
 length-transfer a (Branch condition offset) s = refl
-length-transfer a Halt s = refl
+length-transfer a (Halt note) s = refl
 
 length-after : (a : ByteAddress) (d : Decoded) (s : State) → length (afterOf a d s) ≡ length s
 length-after a (Defined i) s = length-transfer a i s
@@ -67,9 +68,9 @@ as-known s layout a is both = rw is both
 
 -- HALT leaves the state as it is
 pub after-halt : (a : ByteAddress) (h : ℕ) (s : State) → afterOf a (haltOf h) s ≡ s
-after-halt a h s = go (eqb h 0)
+after-halt a h s = go (ltb h 256)
   where
-    go : (t : Bool) → afterOf a (only t (Defined Halt)) s ≡ s
+    go : (t : Bool) → afterOf a (only t (Defined (Halt (field h 0 8)))) s ≡ s
     go true = refl
     go false = refl
 
@@ -113,7 +114,7 @@ module _ (code : List ℕ) (layout : Layout) where
   passed (suc n) h e = e ∙ rw (ne-eqb (suc n) (length code) (λ (p : suc n ≡ length code). omega arith)) refl
 
   -- behind it, it decides
-  pub ended : (m h k : ℕ) → length code ≡ suc m → h ≡ getD code m 0 → k ≡ cond (eqb h 0) 0 14 → PassedBelow code layout (length code)
+  pub ended : (m h k : ℕ) → length code ≡ suc m → h ≡ getD code m 0 → k ≡ cond (ltb h 256) 0 14 → PassedBelow code layout (length code)
       → firstNo (codeChecks code layout (length code)) ≡ answerAt (addressOf m) k
   ended m h k l q r e = e ∙ ap (lastAnswer code) l ∙ rw (r, q, eq-eqb (suc m) (length code) (sym l)) refl
 

@@ -36,7 +36,7 @@ const MEMORY_FORMAT: u8 = 3;
 fn visit_halt(h: u16) -> u8
     ensures { λ r. ⌜ ((s : State) (layout : Layout) (a : ByteAddress) → r ≡ numberOf s layout a (haltOf h)) ⌝ }
 {
-    if h == 0 { 0 } else { UNDEFINED }
+    if h < 256 { 0 } else { UNDEFINED }
 }
 
 // MOV of an immediate.

@@ -70,7 +70,7 @@ module _ (a : ByteAddress) (s : State) (all : AllOrdered s) where
   transfer-ordered (Ldrb offset rb rd) n = set-ordered s rd _ all byte-ordered
   transfer-ordered (AddPc rd imm) n = set-ordered s rd _ all (exactly-ordered (pcSum a imm) (omega arith))
   transfer-ordered (Branch condition offset) n = all
-  transfer-ordered Halt n = all
+  transfer-ordered (Halt note) n = all
 
 module _ (code : List ℕ) where
   -- the fields of an instruction of the code have no more than their bits

@@ -28,7 +28,7 @@ wordOf (Strb offset rb rd) = word 14 offset rb rd
 wordOf (Ldrb offset rb rd) = word 15 offset rb rd
 wordOf (AddPc rd imm) = word 16 rd imm 0
 wordOf (Branch condition offset) = word 17 condition offset 0
-wordOf Halt = word 18 0 0 0
+wordOf (Halt note) = word 18 note 0 0
 
 -- a decoded halfword; 0 is undefined
 abbrev pub decodedWord : Decoded → ℕ
@@ -56,7 +56,7 @@ kinds a b c =
     ∷ Defined (Ldrb a b c)
     ∷ Defined (AddPc a b)
     ∷ Defined (Branch a b)
-    ∷ Defined Halt
+    ∷ Defined (Halt a)
     ∷ []
 
 -- the instruction of a word

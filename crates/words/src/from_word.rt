@@ -47,7 +47,7 @@ pub fn instruction_of(w: u32) -> Decoded
         }),
         16 => Decoded::Defined(Instruction::AddPc { rd: a, imm: b }),
         17 => Decoded::Defined(Instruction::Branch { cond: a, offset: b }),
-        18 => Decoded::Defined(Instruction::Halt),
+        18 => Decoded::Defined(Instruction::Halt { note: a }),
         _ => Decoded::Undefined,
     }
 }

@@ -34,7 +34,7 @@ fn word_of(i: Instruction) -> u32
         Instruction::Ldrb { offset, rb, rd } => pack(15, offset, rb, rd),
         Instruction::AddPc { rd, imm } => pack(16, rd, imm, 0),
         Instruction::Branch { cond, offset } => pack(17, cond, offset, 0),
-        Instruction::Halt => pack(18, 0, 0, 0),
+        Instruction::Halt { note } => pack(18, note, 0, 0),
     }
 }
 

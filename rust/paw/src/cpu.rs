@@ -12,7 +12,24 @@ pub const MEMORY_BYTES: usize = 65_536;
 /// Index of the program counter among the registers.
 pub const PC: usize = 15;
 
-/// Registers and flags. A fresh one is all zeros, so its program counter is at address 0.
+/// Registers, flags and note. A fresh one is all zeros, so its program counter is at address 0.
+///
+/// The note may be anything at a start. A step or a run that ends by HALT sets it to the low byte
+/// of that HALT's halfword, each time anew. Nothing else changes it: no completed step, no stop, no
+/// refusal, and no budget that is spent with HALT next. So it tells why a program ended only where
+/// the outcome is [`StepOutcome::Halted`] or [`RunOutcome::Halted`].
+///
+/// ```
+/// use paw::{Machine, RunOutcome};
+///
+/// let mut memory = vec![0; paw::MEMORY_BYTES];
+/// memory[..2].copy_from_slice(&0x0007_u16.to_le_bytes()); // HALT #7
+/// let mut machine = Machine { note: 99, ..Machine::default() };
+/// assert_eq!(paw::run(&mut machine, &mut memory, 0).unwrap().outcome, RunOutcome::Spent);
+/// assert_eq!(machine.note, 99);
+/// assert_eq!(paw::run(&mut machine, &mut memory, 1).unwrap().outcome, RunOutcome::Halted);
+/// assert_eq!(machine.note, 7);
+/// ```
 #[repr(C)]
 #[derive(Clone, Copy, Debug, Default, PartialEq, Eq, Hash)]
 pub struct Machine {
@@ -26,17 +43,22 @@ pub struct Machine {
     pub c: bool,
     /// Signed overflow.
     pub v: bool,
+    /// What the last HALT that ended a step or a run said, or what stood here before.
+    pub note: u8,
 }
 
-// The library reads and writes this very record, so it must lie as it does there.
+// The library reads and writes this very record, so it must lie as it does there. The byte behind
+// the note is padding on both sides: whatever it holds, no answer depends on it, and no comparison
+// or hash here sees it.
 const _: () = {
-    assert!(size_of::<Machine>() == 36);
+    assert!(size_of::<Machine>() == 38);
     assert!(align_of::<Machine>() == 2);
     assert!(offset_of!(Machine, regs) == 0);
     assert!(offset_of!(Machine, n) == 32);
     assert!(offset_of!(Machine, z) == 33);
     assert!(offset_of!(Machine, c) == 34);
     assert!(offset_of!(Machine, v) == 35);
+    assert!(offset_of!(Machine, note) == 36);
 };
 
 /// Why the next instruction cannot be executed; its number is the one that the board's papers
@@ -84,7 +106,7 @@ impl Error for Stop {}
 pub enum StepOutcome {
     /// One instruction was executed.
     Completed,
-    /// The program counter is at HALT; nothing changed.
+    /// The program counter is at HALT. Nothing changed but the machine's note, which is HALT's.
     Halted,
     /// The next instruction cannot be executed; nothing changed.
     Stopped(Stop),
@@ -104,11 +126,11 @@ impl fmt::Display for StepOutcome {
 #[must_use = "a run may have spent its budget or stopped"]
 #[derive(Clone, Copy, Debug, PartialEq, Eq, Hash)]
 pub enum RunOutcome {
-    /// The budget is used up, whatever would have come next.
+    /// The budget is used up, whatever would have come next; the machine's note is as before.
     Spent,
-    /// The program counter is at HALT.
+    /// The program counter is at HALT, and the machine's note is that HALT's.
     Halted,
-    /// The next instruction cannot be executed.
+    /// The next instruction cannot be executed; the machine's note is as before.
     Stopped(Stop),
 }
 
@@ -155,15 +177,19 @@ impl Ending {
 /// Executes the instruction at the program counter, changing this very machine and memory. Check 1
 /// refuses a memory that does not have [`MEMORY_BYTES`].
 ///
+/// A step that meets HALT changes the machine's note, and nothing else.
+///
 /// ```
 /// use paw::{Machine, StepOutcome};
 ///
 /// let mut memory = vec![0; paw::MEMORY_BYTES];
 /// memory[..2].copy_from_slice(&0x2307_u16.to_le_bytes()); // MOV R3, #7
+/// memory[2..4].copy_from_slice(&0x000C_u16.to_le_bytes()); // HALT #12
 /// let mut machine = Machine::default();
 /// assert_eq!(paw::step(&mut machine, &mut memory), Ok(StepOutcome::Completed));
 /// assert_eq!((machine.regs[3], machine.regs[paw::PC]), (7, 2));
 /// assert_eq!(paw::step(&mut machine, &mut memory), Ok(StepOutcome::Halted));
+/// assert_eq!((machine.note, machine.regs[paw::PC]), (12, 2));
 /// ```
 pub fn step(machine: &mut Machine, memory: &mut [u8]) -> Result<StepOutcome, Refusal> {
     match ffi::step(machine, memory) {
@@ -180,18 +206,22 @@ pub fn step(machine: &mut Machine, memory: &mut [u8]) -> Result<StepOutcome, Ref
 /// memory that does not have [`MEMORY_BYTES`].
 ///
 /// A run that has completed `budget` steps, be it none, is [`RunOutcome::Spent`], whatever the
-/// next one would do: the program may not have come to its end.
+/// next one would do: the program may not have come to its end. One that is [`RunOutcome::Halted`]
+/// has left its HALT's note in the machine.
 ///
 /// ```
 /// use paw::{Machine, Run, RunOutcome};
 ///
 /// let mut memory = vec![0; paw::MEMORY_BYTES];
 /// memory[..2].copy_from_slice(&0x2307_u16.to_le_bytes()); // MOV R3, #7
+/// memory[2..4].copy_from_slice(&0x000C_u16.to_le_bytes()); // HALT #12
 /// let mut machine = Machine::default();
 /// let spent = Run { outcome: RunOutcome::Spent, steps: 1 };
 /// assert_eq!(paw::run(&mut machine, &mut memory, 1), Ok(spent));
+/// assert_eq!(machine.note, 0); // HALT is next, but was not met
 /// let halted = Run { outcome: RunOutcome::Halted, steps: 0 };
 /// assert_eq!(paw::run(&mut machine, &mut memory, 1), Ok(halted));
+/// assert_eq!(machine.note, 12);
 /// ```
 pub fn run(machine: &mut Machine, memory: &mut [u8], budget: u32) -> Result<Run, Refusal> {
     let answer = ffi::run(machine, memory, budget);

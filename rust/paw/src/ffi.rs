@@ -40,7 +40,8 @@ pub fn encode(word: u32) -> u32 {
 
 pub fn step(machine: &mut Machine, memory: &mut [u8]) -> u32 {
     // SAFETY: both are borrowed for the call alone, apart from each other, and the length is the
-    // slice's own; `Machine` has the library's layout, which `cpu` asserts.
+    // slice's own; `Machine` has the library's layout, which `cpu` asserts. Its last byte is
+    // padding: the library may write it, and makes nothing of what it holds.
     unsafe { paw_step(machine, memory.as_mut_ptr(), memory.len()) }
 }
 

@@ -9,7 +9,7 @@ use crate::{Condition, Refusal, ffi};
 /// registers, 0 to 7 unless it says more.
 ///
 /// It is displayed in the manual's notation. Offsets are told in bytes, that of a branch from the
-/// branch itself and with its sign.
+/// branch itself and with its sign. HALT's note is told even where it is 0.
 ///
 /// ```
 /// use paw::{Condition, Instruction};
@@ -21,7 +21,7 @@ use crate::{Condition, Refusal, ffi};
 /// assert_eq!(text(0x7891), "LDRB R1, [R2, #2]");
 /// assert_eq!(text(0xA001), "ADD R0, PC, #4");
 /// assert_eq!(text(0xD0FE), "BEQ -4");
-/// assert_eq!(text(0x0000), "HALT");
+/// assert_eq!(text(0x0007), "HALT #7");
 /// ```
 #[derive(Clone, Copy, Debug, PartialEq, Eq, Hash)]
 pub enum Instruction {
@@ -153,7 +153,10 @@ pub enum Instruction {
         offset: i8,
     },
     /// HALT.
-    Halt,
+    Halt {
+        /// Why the program ends, any byte: [`Machine::note`](crate::Machine::note) gets it.
+        note: u8,
+    },
 }
 
 use Instruction::*;
@@ -179,7 +182,7 @@ impl Instruction {
             Ldrb { offset, rb, rd } => (15, offset, rb, rd),
             AddPc { rd, imm } => (16, rd, imm, 0),
             Branch { cond, offset } => (17, cond.number(), offset as u8, 0),
-            Halt => (18, 0, 0, 0),
+            Halt { note } => (18, note, 0, 0),
         };
         u32::from_be_bytes([kind, a, b, c])
     }
@@ -209,7 +212,7 @@ impl Instruction {
                 Some(cond) => Branch { cond, offset: b as i8 },
                 None => panic!("libpaw.a decodes a branch with condition {a}"),
             },
-            18 => Halt,
+            18 => Halt { note: a },
             _ => panic!("libpaw.a decodes to kind {kind}"),
         })
     }
@@ -234,7 +237,7 @@ impl fmt::Display for Instruction {
             Ldrb { offset, rb, rd } => write!(f, "LDRB R{rd}, [R{rb}, #{offset}]"),
             AddPc { rd, imm } => write!(f, "ADD R{rd}, PC, #{}", 4 * u16::from(imm)),
             Branch { cond, offset } => write!(f, "B{cond} {:+}", 2 * i16::from(offset)),
-            Halt => f.write_str("HALT"),
+            Halt { note } => write!(f, "HALT #{note}"),
         }
     }
 }
@@ -242,13 +245,12 @@ impl fmt::Display for Instruction {
 /// The instruction that a halfword says, or nothing where it is undefined.
 ///
 /// ```
-/// use paw::{decode, encode, Check, Condition, Instruction};
+/// use paw::{Condition, Instruction, decode};
 ///
 /// assert_eq!(decode(0xA001), Some(Instruction::AddPc { rd: 0, imm: 1 }));
 /// assert_eq!(decode(0xD1FE), Some(Instruction::Branch { cond: Condition::Ne, offset: -2 }));
-/// assert_eq!(decode(0x0001), None);
-/// assert_eq!(encode(Instruction::AddPc { rd: 0, imm: 1 }), Ok(0xA001));
-/// assert_eq!(encode(Instruction::AddPc { rd: 8, imm: 1 }).unwrap_err().check, Check::Fields);
+/// assert_eq!(decode(0x0001), Some(Instruction::Halt { note: 1 }));
+/// assert_eq!(decode(0x0100), None);
 /// ```
 #[must_use]
 pub fn decode(halfword: u16) -> Option<Instruction> {
@@ -256,6 +258,15 @@ pub fn decode(halfword: u16) -> Option<Instruction> {
 }
 
 /// The halfword of an instruction; check 17 refuses fields that form none.
+///
+/// ```
+/// use paw::{Check, Instruction};
+///
+/// assert_eq!(paw::encode(Instruction::Halt { note: 7 }), Ok(0x0007));
+/// assert_eq!(paw::encode(Instruction::AddPc { rd: 0, imm: 1 }), Ok(0xA001));
+/// let refusal = paw::encode(Instruction::AddPc { rd: 8, imm: 1 }).unwrap_err();
+/// assert_eq!(refusal.check, Check::Fields);
+/// ```
 pub fn encode(instruction: Instruction) -> Result<u16, Refusal> {
     let answer = ffi::encode(instruction.to_word());
     let [number, halfword] = [answer as u16, (answer >> 16) as u16];

@@ -11,7 +11,8 @@
 //!
 //! A program travels as an image file: [`pack`] makes one, [`check`] reads what it says of itself,
 //! [`verify`] decides whether it can be run without harm, [`load`] puts it into memory if so, and
-//! [`run`] runs it.
+//! [`run`] runs it. A program that ends by HALT may say why in a byte, which [`Machine::note`] then
+//! holds.
 //!
 //! ```
 //! use paw::{Condition, Instruction, Machine, RunOutcome};
@@ -23,7 +24,7 @@
 //!     Instruction::Neg { rs: 1, rd: 1 },
 //!     Instruction::AddHigh { rs: 1, rd: 0 },
 //!     Instruction::Branch { cond: Condition::Ne, offset: -1 },
-//!     Instruction::Halt,
+//!     Instruction::Halt { note: 7 },
 //! ];
 //! let mut code = [0; 6];
 //! for (halfword, instruction) in code.iter_mut().zip(program) {
@@ -37,7 +38,7 @@
 //! let mut machine = Machine::default();
 //! let run = paw::run(&mut machine, &mut memory, 1_000)?;
 //! match run.outcome {
-//!     RunOutcome::Halted => assert_eq!((run.steps, machine.regs[0]), (9, 0)),
+//!     RunOutcome::Halted => assert_eq!((run.steps, machine.regs[0], machine.note), (9, 0, 7)),
 //!     RunOutcome::Spent => panic!("a thousand steps are not enough"),
 //!     RunOutcome::Stopped(stop) => panic!("{stop}"), // never, after a load
 //! }

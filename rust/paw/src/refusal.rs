@@ -35,7 +35,7 @@ pub enum Check {
     KeepsPc = 12,
     /// The branch stays inside the code.
     BranchTarget = 13,
-    /// The last instruction is HALT.
+    /// The last instruction is HALT, with any note.
     LastIsHalt = 14,
     /// The packer is given as much code as an image can hold, and some.
     CodeLength = 15,

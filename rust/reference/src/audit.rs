@@ -38,17 +38,27 @@ pub fn audit_with(
         if count == budget {
             return Ok(ended(RunOutcome::Spent, count));
         }
-        let outcome = step(machine, memory);
+        let due = expected(instruction, machine.note);
+        let got = (step(machine, memory), machine.note);
         limits
             .check_unchanged(&original, memory)
             .map_err(|what| format!("in step {count}: {what}"))?;
-        match outcome {
-            StepOutcome::Completed if instruction != Instruction::Halt => count += 1,
-            StepOutcome::Halted if instruction == Instruction::Halt => {
-                return Ok(ended(RunOutcome::Halted, count));
-            }
-            _ => return Err(format!("after {count} steps: {instruction:?} gives {outcome:?}")),
+        if got != due {
+            return Err(format!("after {count} steps: {instruction:?} gives {got:?}, not {due:?}"));
         }
+        if got.0 == StepOutcome::Halted {
+            return Ok(ended(RunOutcome::Halted, count));
+        }
+        count += 1;
+    }
+}
+
+/// What a step of an accepted program answers, and the note after it: HALT ends the run and leaves
+/// its own, and any other instruction is completed and leaves the one from before.
+fn expected(instruction: Instruction, before: u8) -> (StepOutcome, u8) {
+    match instruction {
+        Instruction::Halt { note } => (StepOutcome::Halted, note),
+        _ => (StepOutcome::Completed, before),
     }
 }
 

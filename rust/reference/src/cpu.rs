@@ -20,7 +20,7 @@ pub const STOP_UNDEFINED: u8 = 19;
 /// Stop: a halfword access at an address that 4 does not divide.
 pub const STOP_MISALIGNED: u8 = 20;
 
-/// Registers and flags. R15 is the program counter.
+/// Registers, flags and note. R15 is the program counter.
 #[derive(Clone, Copy, Debug, Default, PartialEq, Eq)]
 pub struct Machine {
     /// R0 to R15.
@@ -33,6 +33,9 @@ pub struct Machine {
     pub c: bool,
     /// Signed overflow.
     pub v: bool,
+    /// What the HALT that was last met has noted, or whatever stood here before. Nothing else
+    /// changes it, and no instruction reads it.
+    pub note: u8,
 }
 
 /// What became of one step.
@@ -40,7 +43,7 @@ pub struct Machine {
 pub enum StepOutcome {
     /// One instruction was executed.
     Completed,
-    /// The program counter is at HALT; nothing changed.
+    /// The program counter is at HALT; nothing changed but the note, which is now HALT's.
     Halted,
     /// Stop 18, 19 or 20; nothing changed.
     Stopped(u8),
@@ -51,9 +54,9 @@ pub enum StepOutcome {
 /// Why a run ended.
 #[derive(Clone, Copy, Debug, PartialEq, Eq)]
 pub enum RunOutcome {
-    /// The budget is used up, whatever would have come next.
+    /// The budget is used up, whatever would have come next: a HALT there has noted nothing.
     Spent,
-    /// The program counter is at HALT.
+    /// The program counter is at HALT, whose note the machine now has.
     Halted,
     /// Stop 18, 19 or 20.
     Stopped(u8),
@@ -108,7 +111,7 @@ fn ended(outcome: RunOutcome, count: u32) -> RunResult {
     RunResult { outcome, count }
 }
 
-/// Why no instruction could be executed.
+/// Why no step was completed.
 enum Ending {
     Halt,
     Stop(u8),
@@ -184,7 +187,10 @@ fn execute(
         AddPc { rd, imm } => machine.set(rd, pc_relative(pc, imm)),
         Branch { cond, offset } if machine.holds(cond) => return Ok(branch_target(pc, offset)),
         Branch { .. } => {}
-        Halt => return Err(Ending::Halt),
+        Halt { note } => {
+            machine.note = note;
+            return Err(Ending::Halt);
+        }
     }
     Ok(next)
 }

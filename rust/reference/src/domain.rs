@@ -109,7 +109,7 @@ impl State {
             Ldrb { rd, .. } => (rd, AbstractValue::new(0, u8::MAX.into(), 0)),
             Ldr { rd, .. } => (rd, AbstractValue::UNKNOWN),
             CmpImm { .. } | Tst { .. } | Cmp { .. } | CmpHigh { .. } => return,
-            Str { .. } | Strb { .. } | Branch { .. } | Halt => return,
+            Str { .. } | Strb { .. } | Branch { .. } | Halt { .. } => return,
         };
         if let Some(place) = self.values.get_mut(usize::from(rd)) {
             *place = value;

@@ -43,8 +43,8 @@ pub enum Instruction {
     AddPc { rd: u8, imm: u8 },
     /// Branch by a signed count of halfwords if condition `cond` (0 to 13) holds.
     Branch { cond: u8, offset: u8 },
-    /// Stop executing.
-    Halt,
+    /// Stop executing, for a reason that any byte may note.
+    Halt { note: u8 },
 }
 
 /// Highest branch condition that has a meaning.
@@ -55,7 +55,7 @@ use Instruction::*;
 /// Takes a halfword apart. `None` if it is undefined.
 pub const fn decode(halfword: u16) -> Option<Instruction> {
     match halfword >> 12 {
-        0b0000 if halfword == 0 => Some(Halt),
+        0b0000 if bits(halfword, 8, 4) == 0 => Some(Halt { note: bits(halfword, 0, 8) }),
         0b0010 => Some(decode_immediate(halfword)),
         0b0100 => decode_registers(halfword),
         0b0110 | 0b0111 => Some(decode_transfer(halfword)),
@@ -186,7 +186,7 @@ const fn try_encode(instruction: Instruction) -> Option<u16> {
         Ldrb { offset, rb, rd } => encode_transfer(0b11, offset, rb, rd),
         AddPc { rd, imm } => encode_immediate(0b10100, rd, imm),
         Branch { cond, offset } => encode_branch(cond, offset),
-        Halt => Some(0),
+        Halt { note } => Some(note as u16),
     }
 }
 

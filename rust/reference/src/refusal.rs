@@ -28,7 +28,7 @@ pub const MISALIGNED: u8 = 11;
 pub const WRITES_PC: u8 = 12;
 /// Check 13: a branch stays inside the code.
 pub const BRANCH_TARGET: u8 = 13;
-/// Check 14: the last instruction is HALT.
+/// Check 14: the last instruction is HALT, whatever it notes.
 pub const LAST_NOT_HALT: u8 = 14;
 /// Check 15: the packer is given a permitted amount of code.
 pub const CODE_LENGTH: u8 = 15;

@@ -106,7 +106,8 @@ pub fn defined_halfwords() -> usize {
     (0..=u16::MAX).filter(|&halfword| decode(halfword).is_some()).count()
 }
 
-/// How many codes of one instruction and a HALT are fit beside a window that passes check 8.
+/// How many codes of one instruction and 0x0000, which is but one of the HALTs, are fit beside a
+/// window that passes check 8.
 pub fn fit_pairs(w: u16, l: u16) -> usize {
     (0..=u16::MAX).filter(|&first| verify_code(&[first, 0], w, l).is_ok()).count()
 }

@@ -97,7 +97,7 @@ impl Bounds {
         if !self.stays_in_code(instruction, address) {
             return Some(BRANCH_TARGET);
         }
-        if u32::from(address) == self.last && instruction != Instruction::Halt {
+        if u32::from(address) == self.last && !matches!(instruction, Instruction::Halt { .. }) {
             return Some(LAST_NOT_HALT);
         }
         None

@@ -25,7 +25,7 @@ both! {
     And { rs, rd }, Eor { rs, rd }, Asr { rs, rd }, Tst { rs, rd }, Neg { rs, rd }, Cmp { rs, rd },
     AddHigh { rs, rd }, CmpHigh { rs, rd }, MovHigh { rs, rd },
     Str { offset, rb, rd }, Ldr { offset, rb, rd }, Strb { offset, rb, rd }, Ldrb { offset, rb, rd },
-    AddPc { rd, imm }, Halt {},
+    AddPc { rd, imm }, Halt { note },
 }
 
 fn same_encoding(instruction: Proved) {
@@ -49,7 +49,20 @@ fn every_halfword_decodes_alike() {
             assert_eq!(paw::encode(instruction), Ok(halfword));
         }
     }
-    assert_eq!(defined, 19_009);
+    assert_eq!(defined, 19_264);
+}
+
+/// The halfwords below 0x2000: 256 of them are HALT, each with its low byte, and the others none.
+#[test]
+fn every_halt() {
+    for halfword in 0..0x2000 {
+        let expected = u8::try_from(halfword).ok().map(|note| Proved::Halt { note });
+        assert_eq!(paw::decode(halfword), expected, "{halfword:#06x}");
+    }
+    for note in 0..=u8::MAX {
+        assert_eq!(paw::encode(Proved::Halt { note }), Ok(note.into()));
+        same_encoding(Proved::Halt { note });
+    }
 }
 
 #[test]
@@ -75,7 +88,6 @@ fn every_pair_of_fields_encodes_alike() {
             }
         }
     }
-    same_encoding(Proved::Halt);
 }
 
 /// Numbers that are no conditions have no instruction here; `tests/firmware.c` encodes them too.

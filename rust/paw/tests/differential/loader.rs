@@ -1,9 +1,13 @@
 //! The loader: answers and every byte of memory; then loaded programs at work, each step watched.
 
+use std::collections::HashSet;
+
+use Instruction::*;
 use reference::audit::audit_with;
 use reference::cpu::{Machine, RunOutcome, RunResult};
 use reference::generate::{self, Rng};
 use reference::image::{Layout, MAX_BLOCKS};
+use reference::instruction::Instruction;
 use reference::program::Program;
 use reference::refusal::Refusal;
 
@@ -125,8 +129,9 @@ fn with_other_surroundings(rng: &mut Rng, memory: &[u8], program: &Program) -> V
 }
 
 /// Loads a fit program by the library, steps it by the library under the reference's eyes, and
-/// runs it by the library in three more ways that must agree. Answers how the run ended.
-fn watched(rng: &mut Rng, program: &Program, budget: u32) -> RunResult {
+/// runs it by the library in three more ways that must agree. Answers how the run ended, and with
+/// which note.
+fn watched(rng: &mut Rng, program: &Program, budget: u32) -> (RunResult, u8) {
     let (answer, memory) = loaded(&program.file().unwrap(), &generate::memory(rng));
     assert_eq!(answer, Ok(program.layout()), "generated to be fit");
     let mut memory = memory.to_vec();
@@ -154,26 +159,61 @@ fn watched(rng: &mut Rng, program: &Program, budget: u32) -> RunResult {
     let mut elsewhere = start;
     let ended_elsewhere = library_run(&mut elsewhere, &mut other_memory, budget);
     same_end(elsewhere, ended_elsewhere, &other_memory[window.clone()]);
-    ended
+    assert!(ended.outcome == RunOutcome::Halted || machine.note == start.note, "{program:x?}");
+    (ended, machine.note)
 }
 
 #[test]
 fn loaded_programs_do_no_harm() {
     let mut rng = Rng::new(606);
     let (mut halted, mut spent, mut steps) = (0, 0, 0);
+    let mut notes = HashSet::new();
     for _ in 0..rounds(4_000) {
         let length = rng.between(1, 120);
         let program = generate::fit_program(&mut rng, length);
         let budget = rng.pick(&[0, 1, 2, 20, 150]);
-        let ended = watched(&mut rng, &program, budget);
+        let (ended, note) = watched(&mut rng, &program, budget);
         match ended.outcome {
-            RunOutcome::Halted => halted += 1,
+            RunOutcome::Halted => {
+                halted += 1;
+                notes.insert(note);
+            }
             _ => spent += 1,
         }
         steps += ended.count as usize;
     }
     assert!(halted > rounds(300) && spent > rounds(300), "{halted} {spent}");
+    assert!(notes.len() > 180, "{} notes", notes.len());
     assert!(steps > rounds(50_000), "{steps}");
+}
+
+/// Every byte as a note, from two memories that are alike in code and window only: the program ends
+/// in one HALT or another by what it finds in its window.
+#[test]
+fn every_note_is_the_same_from_two_memories() {
+    let mut rng = Rng::new(609);
+    let mut ends = [0, 0];
+    for (note, round) in (0..=u8::MAX).flat_map(|note| (0..rounds(8)).map(move |i| (note, i))) {
+        let found_zero = Branch { cond: 0, offset: 2 };
+        let program = [
+            MovImm { rd: 0, imm: 64 },
+            Ldrb { offset: 0, rb: 0, rd: 1 },
+            CmpImm { rd: 1, imm: 0 },
+            found_zero,
+            Halt { note },
+            Halt { note: !note },
+        ];
+        let program = Program::assemble(&program, 64, 4).unwrap();
+        // Now and then the budget ends just before.
+        let budget = 4 + u32::from(round % 4 != 0);
+        let (ended, noted) = watched(&mut rng, &program, budget);
+        assert_eq!(ended.count, 4);
+        if ended.outcome == RunOutcome::Halted {
+            assert!([note, !note].contains(&noted), "{noted}, not {note}");
+            ends[usize::from(noted == note)] += 1;
+        }
+    }
+    assert!(ends.iter().all(|&count| count > rounds(500)), "{ends:?}");
 }
 
 #[test]
@@ -200,7 +240,7 @@ fn long_programs_do_no_harm() {
         for _ in 0..rounds(2) {
             let length = generate::code_length(&mut rng, blocks);
             let program = generate::fit_program(&mut rng, length);
-            steps += watched(&mut rng, &program, 3_000).count;
+            steps += watched(&mut rng, &program, 3_000).0.count;
         }
     }
     assert!(steps > 1_000, "{steps}");

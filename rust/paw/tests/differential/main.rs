@@ -3,9 +3,11 @@
 //! One test program keeps the link time low. `PAW_LONG=1` in the environment makes the random
 //! tests twenty times longer.
 
+mod face;
 mod images;
 mod instructions;
 mod loader;
+mod notes;
 mod packer;
 mod runs;
 mod steps;

@@ -85,7 +85,7 @@ fn random_instructions() {
 fn lasting_halfword(rng: &mut Rng) -> u16 {
     loop {
         match generate::instruction(rng) {
-            Halt | Ldr { .. } | Str { .. } => {}
+            Halt { .. } | Ldr { .. } | Str { .. } => {}
             AddHigh { rd: 15, .. } | MovHigh { rd: 15, .. } => {}
             Strb { .. } if !rng.one_in(50) => {}
             kept => return encode(kept).unwrap(),
@@ -256,6 +256,9 @@ fn budgets_around_the_end() {
     let stray = encode(Ldr { offset: 0, rb: 2, rd: 3 }).unwrap();
     for (end, outcome, more) in [
         (0x0000, RunOutcome::Halted, 0),
+        (0x0007, RunOutcome::Halted, 0),
+        (0x00FF, RunOutcome::Halted, 0),
+        (0x0100, RunOutcome::Stopped(19), 0),
         (0xFFFF, RunOutcome::Stopped(19), 0),
         (jump, RunOutcome::Stopped(18), 1),
         (stray, RunOutcome::Stopped(20), 0),
@@ -265,13 +268,15 @@ fn budgets_around_the_end() {
             let budgets = [0, 1, 2, steps - 1, steps, steps + 1, steps + 2, 1 << 31, u32::MAX];
             for budget in budgets {
                 let mut twins = Twins::new(&countdown(end));
-                let mut machine = Machine::default();
+                let mut machine = Machine { note: 0x5A, ..Machine::default() };
                 [machine.regs[0], machine.regs[1]] = [start as u16, u16::MAX];
                 machine.regs[2] = 0x4001;
                 let ended = twins.run(&mut machine, budget);
                 let spent = RunResult { outcome: RunOutcome::Spent, count: budget };
                 let full = RunResult { outcome, count: steps };
                 assert_eq!(ended, if budget <= steps { spent } else { full });
+                let halted = ended.outcome == RunOutcome::Halted;
+                assert_eq!(machine.note, if halted { end as u8 } else { 0x5A });
             }
         }
     }

@@ -35,7 +35,8 @@ pub fn quick_machine(rng: &mut Rng) -> Machine {
     if shapes >> 32 & 31 != 0 {
         regs[PC] &= !1;
     }
-    Machine { regs, n: flag(60), z: flag(61), c: flag(62), v: flag(63) }
+    let note = (shapes >> 40) as u8;
+    Machine { regs, n: flag(60), z: flag(61), c: flag(62), v: flag(63), note }
 }
 
 /// Values around powers of two, zero and all ones: where carries, borrows and signs change.
@@ -106,13 +107,13 @@ pub fn number<T>(answer: &Result<T, Refusal>) -> usize {
 }
 
 pub fn library_machine(machine: &Machine) -> paw::Machine {
-    let Machine { regs, n, z, c, v } = *machine;
-    paw::Machine { regs, n, z, c, v }
+    let Machine { regs, n, z, c, v, note } = *machine;
+    paw::Machine { regs, n, z, c, v, note }
 }
 
 pub fn reference_machine(machine: &paw::Machine) -> Machine {
-    let paw::Machine { regs, n, z, c, v } = *machine;
-    Machine { regs, n, z, c, v }
+    let paw::Machine { regs, n, z, c, v, note } = *machine;
+    Machine { regs, n, z, c, v, note }
 }
 
 /// A step by the library on a reference machine.
@@ -155,7 +156,7 @@ impl Twins {
         Twins { library: Guarded::new(memory), reference: memory.to_vec() }
     }
 
-    /// One step of both from the same machine. Compares outcome, registers and flags.
+    /// One step of both from the same machine. Compares outcome, registers, flags and note.
     pub fn step(&mut self, machine: &mut Machine) -> StepOutcome {
         let before = *machine;
         let mut other = before;
@@ -163,10 +164,11 @@ impl Twins {
         let expected = reference::cpu::step(machine, &mut self.reference);
         assert_eq!(outcome, expected, "from {before:x?}");
         assert_eq!(other, *machine, "from {before:x?}");
+        self.assert_note(outcome == StepOutcome::Halted, &before, &other);
         outcome
     }
 
-    /// One run of both from the same machine. Compares outcome, count, registers, flags and
+    /// One run of both from the same machine. Compares outcome, count, registers, flags, note and
     /// every byte of memory.
     pub fn run(&mut self, machine: &mut Machine, budget: u32) -> RunResult {
         let before = *machine;
@@ -175,8 +177,17 @@ impl Twins {
         let expected = reference::cpu::run(machine, &mut self.reference, budget);
         assert_eq!(ended, expected, "{budget} steps from {before:x?}");
         assert_eq!(other, *machine, "{budget} steps from {before:x?}");
+        self.assert_note(ended.outcome == RunOutcome::Halted, &before, &other);
         self.assert_alike();
         ended
+    }
+
+    /// Asserts the note without asking an engine: after HALT, at which the program counter then is,
+    /// it is the byte there, and after anything else the one from before.
+    fn assert_note(&self, halted: bool, before: &Machine, after: &Machine) {
+        let at_pc = self.library[usize::from(after.regs[PC])];
+        let note = if halted { at_pc } else { before.note };
+        assert_eq!(after.note, note, "the note after {before:x?}, halted: {halted}");
     }
 
     /// Compares every byte of the two memories, and the bytes around the library's.

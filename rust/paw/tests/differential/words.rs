@@ -82,7 +82,9 @@ fn versions() {
 #[test]
 fn instructions() {
     let samples = [
-        (0x0000, "HALT"),
+        (0x0000, "HALT #0"),
+        (0x0007, "HALT #7"),
+        (0x00FF, "HALT #255"),
         (0x23FF, "MOV R3, #255"),
         (0x2F00, "CMP R7, #0"),
         (0x4008, "AND R0, R1"),
@@ -120,5 +122,5 @@ fn no_two_instructions_alike() {
             assert!(texts.insert(instruction.to_string()), "{instruction}");
         }
     }
-    assert_eq!(texts.len(), 19_009);
+    assert_eq!(texts.len(), 19_264);
 }

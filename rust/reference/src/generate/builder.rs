@@ -55,6 +55,12 @@ impl<'a> Builder<'a> {
         self.code.push(halfword);
     }
 
+    /// A HALT that notes anything.
+    fn emit_halt(&mut self) {
+        let note = self.rng.u8();
+        self.emit(Halt { note });
+    }
+
     /// One chunk, or a single instruction if the chunk has no room.
     pub(super) fn emit_chunk(&mut self) {
         if self.rng.one_in(3) && !self.code.is_empty() {
@@ -64,7 +70,7 @@ impl<'a> Builder<'a> {
         match self.rng.below(32) {
             0..=7 => self.emit_harmless(),
             8..=11 => self.emit_branch(),
-            12 if self.rng.one_in(8) => self.emit(Halt),
+            12 if self.rng.one_in(8) => self.emit_halt(),
             _ => self.emit_if_room(Self::emit_accesses),
         }
     }
@@ -267,7 +273,7 @@ impl<'a> Builder<'a> {
     /// Ends the code and gives every open branch a target.
     pub(super) fn finish(mut self) -> Program {
         self.code.truncate(self.length - 1);
-        self.emit(Halt);
+        self.emit_halt();
         for (place, cond) in std::mem::take(&mut self.open_branches) {
             if place < self.length - 1 {
                 let offset = self.pick_branch_offset(place);

@@ -71,7 +71,7 @@ fn make(kind: usize, rs: u8, rd: u8, offset: u8, imm: u8) -> Instruction {
         14 => Ldrb { offset, rb, rd },
         15 => AddPc { rd, imm },
         16 => Branch { cond: rs, offset: imm },
-        _ => Halt,
+        _ => Halt { note: imm },
     }
 }
 
@@ -104,7 +104,7 @@ pub fn machine(rng: &mut Rng) -> Machine {
     if !rng.one_in(16) {
         regs[PC] &= !1;
     }
-    Machine { regs, n: rng.flip(), z: rng.flip(), c: rng.flip(), v: rng.flip() }
+    Machine { regs, n: rng.flip(), z: rng.flip(), c: rng.flip(), v: rng.flip(), note: rng.u8() }
 }
 
 /// Any machine with its program counter at 0.
@@ -134,7 +134,9 @@ fn lasting_halfword(rng: &mut Rng) -> u16 {
     use Instruction::{Halt, Ldr, Str};
     let first = instruction(rng);
     let chosen = match first {
-        Halt | Ldr { .. } | Str { .. } if !rng.one_in(16) => Instruction::And { rs: 0, rd: 1 },
+        Halt { .. } | Ldr { .. } | Str { .. } if !rng.one_in(16) => {
+            Instruction::And { rs: 0, rd: 1 }
+        }
         kept => kept,
     };
     encode(chosen).expect("generated fields are in range")

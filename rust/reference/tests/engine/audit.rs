@@ -6,6 +6,8 @@ use reference::loader::{load, place_code};
 use reference::program::Program;
 use Instruction::*;
 
+const HALT: Instruction = Halt { note: 9 };
+
 #[test]
 fn fit_programs_do_no_harm() {
     let mut rng = Rng::new(11);
@@ -92,17 +94,17 @@ fn complaint_of(program: &Program, r1: u16) -> String {
 fn the_audit_sees_every_harm() {
     let store = Str { offset: 0, rb: 0, rd: 1 };
     let load = Ldrb { offset: 0, rb: 1, rd: 2 };
-    assert_eq!(complaint(&[store, load, Halt], 511), "Halted 2");
+    assert_eq!(complaint(&[store, load, HALT], 511), "Halted 2");
     let outside =
         "after 1 steps: access outside the window to 512 by Ldrb { offset: 0, rb: 1, rd: 2 } at 2";
-    assert_eq!(complaint(&[store, load, Halt], 512), outside);
+    assert_eq!(complaint(&[store, load, HALT], 512), outside);
     let word = Ldr { offset: 0, rb: 1, rd: 2 };
-    assert!(complaint(&[word, Halt], 258).contains("misaligned access to 258"));
-    assert!(complaint(&[word, Halt], 252).contains("outside the window to 252"));
+    assert!(complaint(&[word, HALT], 258).contains("misaligned access to 258"));
+    assert!(complaint(&[word, HALT], 252).contains("outside the window to 252"));
     let jump = MovHigh { rs: 1, rd: 15 };
-    assert_eq!(complaint(&[jump, Halt], 3), "after 1 steps: odd fetch at 3");
-    assert_eq!(complaint(&[jump, Halt], 4), "after 1 steps: fetch outside the code at 4");
-    assert_eq!(complaint(&[jump, Halt], 0), "Spent 10");
+    assert_eq!(complaint(&[jump, HALT], 3), "after 1 steps: odd fetch at 3");
+    assert_eq!(complaint(&[jump, HALT], 4), "after 1 steps: fetch outside the code at 4");
+    assert_eq!(complaint(&[jump, HALT], 0), "Spent 10");
     let undefined = Program { code: vec![0x2001, 0xFFFF, 0], w: 256, l: 256 };
     assert_eq!(complaint_of(&undefined, 0), "after 1 steps: undefined instruction at 2");
 }
@@ -120,7 +122,7 @@ fn harm_at_the_end_of_the_budget_counts() {
 
 #[test]
 fn the_audit_sees_a_bad_engine() {
-    let program = Program::assemble(&[CmpImm { rd: 0, imm: 0 }, Halt], 256, 4).unwrap();
+    let program = Program::assemble(&[CmpImm { rd: 0, imm: 0 }, HALT], 256, 4).unwrap();
     let mut fresh = vec![0; MEMORY_BYTES];
     place_code(&program.code, &mut fresh);
     let start = Machine::default();
@@ -140,6 +142,19 @@ fn the_audit_sees_a_bad_engine() {
     assert!(writing_in_window.is_ok());
     assert!(audited(|_, _| StepOutcome::Halted).is_err());
     assert!(audited(|_, _| StepOutcome::Stopped(19)).is_err());
+    let noting_nothing = audited(|machine, memory| {
+        let before = machine.note;
+        let outcome = step(machine, memory);
+        machine.note = before;
+        outcome
+    });
+    let words = "after 1 steps: Halt { note: 9 } gives (Halted, 0), not (Halted, 9)";
+    assert_eq!(noting_nothing.unwrap_err(), words);
+    let noting_early = audited(|machine, memory| {
+        machine.note = 9;
+        step(machine, memory)
+    });
+    assert!(noting_early.unwrap_err().starts_with("after 0 steps: CmpImm "));
     let running_over_halt = audited(|machine, _| {
         machine.regs[PC] = 2;
         StepOutcome::Completed

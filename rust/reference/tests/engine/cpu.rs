@@ -7,6 +7,8 @@ use Instruction::*;
 
 use crate::naive;
 
+const HALT: Instruction = Halt { note: 0 };
+
 fn memory_with(instructions: &[Instruction]) -> Vec<u8> {
     let code: Vec<u16> = instructions.iter().map(|&i| encode(i).unwrap()).collect();
     let mut memory = vec![0; MEMORY_BYTES];
@@ -22,8 +24,10 @@ fn stepped(instruction: Instruction, mut machine: Machine) -> Machine {
     machine
 }
 
+/// A machine with some registers set, and a note that no test here expects to change but those
+/// that meet HALT.
 fn with_regs(values: &[(usize, u16)]) -> Machine {
-    let mut machine = Machine::default();
+    let mut machine = Machine { note: 0x5A, ..Machine::default() };
     for &(register, value) in values {
         machine.regs[register] = value;
     }
@@ -75,7 +79,7 @@ fn shifts() {
 
 #[test]
 fn reading_the_pc() {
-    let mut memory = memory_with(&[Halt, Halt, Halt, AddPc { rd: 0, imm: 1 }]);
+    let mut memory = memory_with(&[HALT, HALT, HALT, AddPc { rd: 0, imm: 1 }]);
     let mut machine = with_regs(&[(PC, 6)]);
     assert_eq!(step(&mut machine, &mut memory), StepOutcome::Completed);
     assert_eq!((machine.regs[0], machine.regs[PC]), (8, 8));
@@ -100,7 +104,7 @@ fn writing_the_pc() {
     let moved = stepped(MovHigh { rs: 0, rd: 15 }, with_regs(&[(0, 0x8001)]));
     assert_eq!((moved.regs[PC], moved.n, moved.z), (0x8001, true, false));
 
-    let mut memory = memory_with(&[Halt, Halt, AddHigh { rs: 15, rd: 15 }]);
+    let mut memory = memory_with(&[HALT, HALT, AddHigh { rs: 15, rd: 15 }]);
     let mut machine = with_regs(&[(PC, 4)]);
     step(&mut machine, &mut memory);
     assert_eq!(machine.regs[PC], 8);
@@ -145,7 +149,7 @@ fn memory_accesses() {
 
 #[test]
 fn code_that_changes_itself() {
-    let mut memory = memory_with(&[Str { offset: 1, rb: 0, rd: 1 }, Halt, Halt]);
+    let mut memory = memory_with(&[Str { offset: 1, rb: 0, rd: 1 }, HALT, HALT]);
     let mut machine = with_regs(&[(1, encode(MovImm { rd: 7, imm: 77 }).unwrap())]);
     let halted = run(&mut machine, &mut memory, 9);
     assert_eq!((halted.outcome, halted.count), (RunOutcome::Halted, 1));
@@ -186,7 +190,7 @@ fn assert_stop(number: u8, machine: Machine, memory: &[u8]) {
 
 #[test]
 fn budgets() {
-    let moves = [MovImm { rd: 0, imm: 1 }, MovImm { rd: 1, imm: 2 }, Halt];
+    let moves = [MovImm { rd: 0, imm: 1 }, MovImm { rd: 1, imm: 2 }, HALT];
     let expected = [
         (0, RunOutcome::Spent, 0, 0),
         (1, RunOutcome::Spent, 1, 2),
@@ -208,7 +212,7 @@ fn halt_is_no_step() {
     let mut machine = before;
     let mut memory = vec![0; MEMORY_BYTES];
     assert_eq!(step(&mut machine, &mut memory), StepOutcome::Halted);
-    assert_eq!(machine, before);
+    assert_eq!(machine, Machine { note: 0, ..before });
     assert!(memory.iter().all(|&byte| byte == 0));
 }
 

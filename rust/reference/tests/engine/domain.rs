@@ -103,7 +103,7 @@ fn other_instructions_change_nothing() {
         Str { offset: 0, rb: 2, rd: 1 },
         Strb { offset: 0, rb: 2, rd: 1 },
         Branch { cond: 0, offset: 1 },
-        Halt,
+        Halt { note: 1 },
     ];
     for instruction in others {
         let mut state = sample_state();

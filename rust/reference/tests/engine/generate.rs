@@ -54,6 +54,23 @@ fn fit_programs_use_the_whole_instruction_set() {
 }
 
 #[test]
+fn notes_of_all_kinds() {
+    let mut rng = Rng::new(20);
+    let (mut last, mut inner, mut start) = (HashSet::new(), HashSet::new(), HashSet::new());
+    for _ in 0..5_000 {
+        let code = generate::fit_program(&mut rng, 60).code;
+        let is_halt =
+            |halfword: &&u16| matches!(decode(**halfword), Some(Instruction::Halt { .. }));
+        inner.extend(code[..59].iter().filter(is_halt).copied());
+        last.insert(code[59]);
+        start.insert(generate::start(&mut rng).note);
+    }
+    assert_eq!(last, (0..=0x00FF).collect());
+    assert_eq!(start, (0..=255).collect());
+    assert!(inner.len() > 60, "{}", inner.len());
+}
+
+#[test]
 fn images_have_the_wanted_blocks() {
     let mut rng = Rng::new(17);
     for blocks in 1..=64 {

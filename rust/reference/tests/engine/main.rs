@@ -8,5 +8,6 @@ mod image;
 mod instruction;
 mod loader;
 mod naive;
+mod note;
 mod table;
 mod verifier;

@@ -7,10 +7,10 @@ use Instruction::*;
 
 type Make = fn(&Fields) -> Instruction;
 
-/// Letters: s and S the parts of Rs (or the base), d and D those of Rd, i an immediate or offset,
-/// c a condition.
+/// Letters: s and S the parts of Rs (or the base), d and D those of Rd, i an immediate, an offset
+/// or a note, c a condition.
 const PATTERNS: [(&str, Make); 18] = [
-    ("0000000000000000", |_| Halt),
+    ("00000000iiiiiiii", |f| Halt { note: f.i }),
     ("00100dddiiiiiiii", |f| MovImm { rd: f.d, imm: f.i }),
     ("00101dddiiiiiiii", |f| CmpImm { rd: f.d, imm: f.i }),
     ("0100000000sssddd", |f| And { rs: f.s, rd: f.d }),
@@ -75,8 +75,8 @@ pub fn step(machine: &mut Machine, memory: &mut [u8]) -> u8 {
     if pc % 2 == 1 {
         return 18;
     }
-    let bytes = &memory[pc as usize..pc as usize + 2];
-    let Some(instruction) = decode(u16::from(bytes[1]) * 256 + u16::from(bytes[0])) else {
+    let (low, high) = (memory[pc as usize], memory[pc as usize + 1]);
+    let Some(instruction) = decode(u16::from(high) * 256 + u16::from(low)) else {
         return 19;
     };
     if let Str { offset, rb, .. } | Ldr { offset, rb, .. } = instruction {
@@ -84,7 +84,9 @@ pub fn step(machine: &mut Machine, memory: &mut [u8]) -> u8 {
             return 20;
         }
     }
-    if instruction == Halt {
+    if high == 0 {
+        // HALT, and the byte below is its note.
+        machine.note = low;
         return 1;
     }
     let old = *machine;
@@ -151,7 +153,7 @@ fn execute(m: &mut Machine, memory: &mut [u8], instruction: Instruction, next: &
                 *next = reg(15) + 2 * halfwords;
             }
         }
-        Halt => unreachable!("HALT is no step"),
+        Halt { .. } => unreachable!("HALT is no step"),
     }
 }
 

@@ -7,6 +7,8 @@ use reference::table::SAMPLE;
 use reference::verifier::{verify, verify_code};
 use Instruction::*;
 
+const HALT: Instruction = Halt { note: 200 };
+
 fn refused<T>(number: u8, place: u16) -> Result<T, Refusal> {
     Err(Refusal { number, place })
 }
@@ -46,7 +48,7 @@ fn the_sample() {
 
 #[test]
 fn checks_of_files_come_first() {
-    let mut file = Program { code: vec![1], w: 256, l: 256 }.file().unwrap();
+    let mut file = Program { code: vec![0x0100], w: 256, l: 256 }.file().unwrap();
     assert_eq!(verify(&file), refused(9, 0));
     file[300] ^= 1;
     assert_eq!(verify(&file), refused(4, 0));
@@ -56,7 +58,7 @@ fn checks_of_files_come_first() {
 
 #[test]
 fn undefined_instructions() {
-    assert_eq!(verify_code(&[0x0001, 0], 64, 4), refused(9, 0));
+    assert_eq!(verify_code(&[0x0100, 0], 64, 4), refused(9, 0));
     assert_eq!(verify_code(&[0x2000, 0xFFFF, 0], 64, 4), refused(9, 2));
     assert_eq!(verify_code(&[0x2000, 0x4500], 64, 4), refused(9, 2));
     // Reached or not, all code counts.
@@ -87,7 +89,7 @@ fn access_at(base: u16, access: Instruction) -> bool {
     let mut code = vec![MovImm { rd: 0, imm: (base >> 8) as u8 }];
     code.extend(shift_up(0));
     code.extend([MovImm { rd: 1, imm: base as u8 }, AddHigh { rs: 1, rd: 0 }]);
-    code.extend([access, Halt]);
+    code.extend([access, HALT]);
     match judged(&code, 256, 256) {
         Ok(()) => true,
         refusal => {
@@ -105,7 +107,7 @@ fn sums_of_addresses_do_not_wrap() {
     code.extend([MovImm { rd: 1, imm: 0xFC }, AddHigh { rs: 1, rd: 0 }]);
     let mut with = |access| {
         code.truncate(11);
-        code.extend([access, Halt]);
+        code.extend([access, HALT]);
         judged(&code, 28, 65_508)
     };
     assert_eq!(with(Ldr { offset: 0, rb: 0, rd: 1 }), Ok(()));
@@ -124,7 +126,7 @@ fn alignment_is_asked_after_the_window() {
         MovImm { rd: 1, imm: 64 },
         AddHigh { rs: 1, rd: 0 },
     ];
-    let with = |access, l| judged(&[&pointer[..], &[access, Halt]].concat(), 64, l);
+    let with = |access, l| judged(&[&pointer[..], &[access, HALT]].concat(), 64, l);
     assert_eq!(with(Ldrb { offset: 0, rb: 0, rd: 1 }, 4), Ok(()));
     assert_eq!(with(Ldr { offset: 0, rb: 0, rd: 1 }, 4), refused(10, 8));
     assert_eq!(with(Ldr { offset: 0, rb: 0, rd: 1 }, 8), refused(11, 8));
@@ -141,7 +143,7 @@ fn two_known_zeros_are_enough() {
             MovImm { rd: 1, imm: 64 },
             AddHigh { rs: 1, rd: 0 },
         ];
-        judged(&[&pointer[..], &[access, Halt]].concat(), 64, 1024)
+        judged(&[&pointer[..], &[access, HALT]].concat(), 64, 1024)
     };
     assert_eq!(with(252, Ldr { offset: 3, rb: 0, rd: 1 }), Ok(()));
     assert_eq!(with(254, Ldr { offset: 3, rb: 0, rd: 1 }), refused(11, 8));
@@ -151,37 +153,37 @@ fn two_known_zeros_are_enough() {
 #[test]
 fn writes_to_the_pc() {
     for rs in 0..16 {
-        assert_eq!(judged(&[AddHigh { rs, rd: 15 }, Halt], 64, 4), refused(12, 0));
+        assert_eq!(judged(&[AddHigh { rs, rd: 15 }, HALT], 64, 4), refused(12, 0));
         assert_eq!(judged(&[MovHigh { rs, rd: 15 }], 64, 4), refused(12, 0));
-        assert_eq!(judged(&[AddHigh { rs, rd: 14 }, Halt], 64, 4), Ok(()));
+        assert_eq!(judged(&[AddHigh { rs, rd: 14 }, HALT], 64, 4), Ok(()));
     }
-    assert_eq!(judged(&[CmpHigh { rs: 0, rd: 15 }, Halt], 64, 4), Ok(()));
+    assert_eq!(judged(&[CmpHigh { rs: 0, rd: 15 }, HALT], 64, 4), Ok(()));
 }
 
 #[test]
 fn branches_stay_in_the_code() {
     let branch = |offset: i8| Branch { cond: 13, offset: offset as u8 };
-    assert_eq!(judged(&[Halt, branch(-1), Halt], 64, 4), Ok(()));
-    assert_eq!(judged(&[Halt, branch(-2), Halt], 64, 4), refused(13, 2));
-    assert_eq!(judged(&[Halt, branch(1), Halt], 64, 4), Ok(()));
-    assert_eq!(judged(&[Halt, branch(2), Halt], 64, 4), refused(13, 2));
-    assert_eq!(judged(&[branch(-128), Halt], 64, 4), refused(13, 0));
-    assert_eq!(judged(&[branch(127), Halt], 64, 4), refused(13, 0));
+    assert_eq!(judged(&[HALT, branch(-1), HALT], 64, 4), Ok(()));
+    assert_eq!(judged(&[HALT, branch(-2), HALT], 64, 4), refused(13, 2));
+    assert_eq!(judged(&[HALT, branch(1), HALT], 64, 4), Ok(()));
+    assert_eq!(judged(&[HALT, branch(2), HALT], 64, 4), refused(13, 2));
+    assert_eq!(judged(&[branch(-128), HALT], 64, 4), refused(13, 0));
+    assert_eq!(judged(&[branch(127), HALT], 64, 4), refused(13, 0));
 }
 
 #[test]
 fn the_last_is_halt() {
-    assert_eq!(judged(&[Halt], 4, 4), Ok(()));
+    assert_eq!(judged(&[HALT], 4, 4), Ok(()));
     assert_eq!(judged(&[MovImm { rd: 0, imm: 0 }], 4, 4), refused(14, 0));
-    assert_eq!(judged(&[Halt, Branch { cond: 0, offset: 0 }], 4, 4), refused(14, 2));
-    assert_eq!(judged(&[Halt, Branch { cond: 0, offset: 1 }], 4, 4), refused(13, 2));
-    assert_eq!(judged(&[Halt, Ldr { offset: 0, rb: 0, rd: 0 }], 4, 4), refused(10, 2));
+    assert_eq!(judged(&[HALT, Branch { cond: 0, offset: 0 }], 4, 4), refused(14, 2));
+    assert_eq!(judged(&[HALT, Branch { cond: 0, offset: 1 }], 4, 4), refused(13, 2));
+    assert_eq!(judged(&[HALT, Ldr { offset: 0, rb: 0, rd: 0 }], 4, 4), refused(10, 2));
 }
 
 /// Code that makes R0 = 64, with something between that and a load through it.
 fn load_after(between: &[Instruction]) -> Result<(), Refusal> {
     let load = Ldrb { offset: 0, rb: 0, rd: 1 };
-    let code = [&[MovImm { rd: 0, imm: 64 }], between, &[load, Halt]].concat();
+    let code = [&[MovImm { rd: 0, imm: 64 }], between, &[load, HALT]].concat();
     judged(&code, 64, 4)
 }
 
@@ -201,7 +203,7 @@ fn a_branch_to_itself_forgets_before_it_is_judged() {
         MovImm { rd: 0, imm: 64 },
         Branch { cond: 0, offset: 0 },
         Ldrb { offset: 0, rb: 0, rd: 1 },
-        Halt,
+        HALT,
     ];
     assert_eq!(judged(&code, 64, 4), refused(10, 4));
 }
@@ -228,15 +230,15 @@ fn high_registers_keep_pointers() {
 #[test]
 fn pointers_from_the_pc() {
     let load = Ldr { offset: 0, rb: 0, rd: 1 };
-    assert_eq!(judged(&[AddPc { rd: 0, imm: 2 }, load, Halt], 8, 4), Ok(()));
-    assert_eq!(judged(&[Halt, AddPc { rd: 0, imm: 2 }, load, Halt], 8, 4), Ok(()));
-    assert_eq!(judged(&[AddPc { rd: 0, imm: 3 }, load, Halt], 8, 4), refused(10, 2));
+    assert_eq!(judged(&[AddPc { rd: 0, imm: 2 }, load, HALT], 8, 4), Ok(()));
+    assert_eq!(judged(&[HALT, AddPc { rd: 0, imm: 2 }, load, HALT], 8, 4), Ok(()));
+    assert_eq!(judged(&[AddPc { rd: 0, imm: 3 }, load, HALT], 8, 4), refused(10, 2));
     let from_pc = |first| {
-        let rest = [MovImm { rd: 1, imm: 10 }, AddHigh { rs: 1, rd: 0 }, load, Halt];
-        judged(&[&[Halt, first][..], &rest].concat(), 12, 4)
+        let rest = [MovImm { rd: 1, imm: 10 }, AddHigh { rs: 1, rd: 0 }, load, HALT];
+        judged(&[&[HALT, first][..], &rest].concat(), 12, 4)
     };
     assert_eq!(from_pc(MovHigh { rs: 15, rd: 0 }), Ok(()));
-    let add_pc = [MovImm { rd: 0, imm: 10 }, AddHigh { rs: 15, rd: 0 }, load, Halt];
+    let add_pc = [MovImm { rd: 0, imm: 10 }, AddHigh { rs: 15, rd: 0 }, load, HALT];
     assert_eq!(judged(&add_pc, 12, 4), Ok(()));
 }
 

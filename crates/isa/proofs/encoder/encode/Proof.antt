@@ -44,6 +44,7 @@ encode-spec =
     (λ c. search needs)
     (λ c κs. search needs)
     (λ c. search needs)
+    (λ c κs. search needs)
     (λ c. c .imm-form .ensures ∙ ap encodeOf (sym (c .before .before .i .given .1)))
     (λ c. c .imm-form2 .ensures ∙ ap encodeOf (sym (c .before .before .i2 .given .1)))
     (λ c. c .alu-form .ensures ∙ ap encodeOf (sym (c .before .before .i3 .given .1)))
@@ -61,4 +62,4 @@ encode-spec =
     (λ c. c .memory-form4 .ensures ∙ ap encodeOf (sym (c .before .before .i15 .given .1)))
     (λ c. c .add-pc-form .ensures ∙ ap encodeOf (sym (c .before .before .i16 .given .1)))
     (λ c. c .branch-form .ensures ∙ ap encodeOf (sym (c .before .before .i17 .given .1)))
-    (λ c. ap encodeOf (sym (c .enum-told .given .1))))
+    (λ c. c .halt-form .ensures ∙ ap encodeOf (sym (c .before .before .i18 .given .1))))

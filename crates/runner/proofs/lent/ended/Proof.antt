@@ -2,7 +2,7 @@
 use mathlib.Core.Path.{refl, ap}
 use lib.ListN.{set}
 use Rattle.alu.specs.Flags.{Flags}
-use Rattle.cpu.specs.Machine.{machine}
+use Rattle.cpu.specs.Held.{bare}
 use borrow.Author.Needs.{needs}
 use Rattle.runner.proofs.lent.ended.Statement.{statement}
 use Rattle.runner.proofs.lent.ended.Tie as tie
@@ -10,7 +10,7 @@ use Rattle.runner.proofs.lent.ended.Tie as tie
 returns : tie.Need-returns
 returns c =
     let m = c .before .before in
-    (ap (λ (f : Flags). machine (set (m .args .regs .now) 15 (m .args .k .pc)) f) (c .before .status-in .ensures), c .run-outcome .ensures, refl)
+    (ap (λ (f : Flags). bare (set (m .args .regs .now) 15 (m .args .k .pc)) f) (c .before .status-in .ensures), c .run-outcome .ensures, refl)
 
 pub ended-spec : {M : Type 1} → statement M
 ended-spec =

@@ -72,7 +72,7 @@ run-lent-spec =
     Inv-loop
     μ-loop
     (λ c κs. search needs)
-    (λ c. run-refused _ _ _ _ (c .before .if1 .taken) (c .refusal-of .ensures))
+    (λ c. run-refused _ _ _ _ _ (c .before .if1 .taken) (c .refusal-of .ensures))
     (λ c. search needs)
     (λ c κs. search needs)
     loop-holds

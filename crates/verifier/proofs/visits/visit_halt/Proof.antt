@@ -1,13 +1,13 @@
 -- `visit_halt` is right because its test is the definition's.
-use borrow.Author.Tests.{eq-eqb, ne-eqb}
+use borrow.Author.Tests.{lt-ltb, le-ltb}
 use Rattle.verifier.proofs.visits.visit_halt.Statement.{statement}
 use Rattle.verifier.proofs.visits.visit_halt.Tie as tie
 
 returns : tie.Need-returns
-returns c s layout a = simp (eq-eqb _ _ (c .if1 .taken))
+returns c s layout a = simp (lt-ltb _ _ (c .if1 .taken))
 
 returns-2 : tie.Need-returns-2
-returns-2 c s layout a = simp (ne-eqb _ _ (c .if1 .left))
+returns-2 c s layout a = simp (le-ltb _ _ (c .if1 .left))
 
 pub visit-halt-spec : {M : Type 1} → statement M
 visit-halt-spec =

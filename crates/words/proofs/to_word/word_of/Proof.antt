@@ -62,4 +62,4 @@ word-of-spec =
     (λ c. c .pack15 .ensures ∙ ap wordOf (sym (c .before .before .i15 .given .1)))
     (λ c. c .pack16 .ensures ∙ ap wordOf (sym (c .before .before .i16 .given .1)))
     (λ c. c .pack17 .ensures ∙ ap wordOf (sym (c .before .before .i17 .given .1)))
-    (λ c. c .pack18 .ensures ∙ ap wordOf (sym (c .before .enum-told .given .1))))
+    (λ c. c .pack18 .ensures ∙ ap wordOf (sym (c .before .before .i18 .given .1))))

@@ -1,0 +1,18 @@
+-- What the registers and flags come to, with the note put in.
+use Rattle.runner.proofs.Noted.{run-left}
+use borrow.Author.Needs.{needs}
+use Rattle.runner.proofs.runs.run.Statement.{statement}
+use Rattle.runner.proofs.runs.run.Tie as tie
+
+returns : tie.Need-returns
+returns c = rw (c .note-left .ensures) (run-left _ _ _ _ (c .before .before .before .before .before .run-lent .ensures))
+
+pub run-spec : {M : Type 1} → statement M
+run-spec =
+    tie.close
+    (tie.spec
+    (λ c κs. search needs)
+    (λ c. search needs)
+    (λ c κs. search needs)
+    (λ c. search needs)
+    returns)

@@ -1,0 +1,190 @@
+//! The exported functions as C calls them: words with any fields, and the machine's record byte by
+//! byte.
+
+use std::hash::{DefaultHasher, Hash, Hasher};
+use std::mem::MaybeUninit;
+
+use reference::cpu::MEMORY_BYTES;
+use reference::generate::Rng;
+use reference::loader::place_code;
+
+unsafe extern "C" {
+    fn paw_decode(halfword: u16) -> u32;
+    fn paw_encode(word: u32) -> u32;
+    fn paw_step(machine: *mut u8, memory: *mut u8, len: usize) -> u32;
+    fn paw_run(machine: *mut u8, memory: *mut u8, len: usize, budget: u32) -> u64;
+}
+
+/// The kind of HALT, whose first field is the note.
+const HALT: u8 = 18;
+
+/// The answer of a step or run that met HALT.
+const MET_HALT: u32 = 255;
+
+fn decode(halfword: u16) -> u32 {
+    // SAFETY: takes a number and answers a number, for every number.
+    unsafe { paw_decode(halfword) }
+}
+
+fn encode(word: [u8; 4]) -> u32 {
+    // SAFETY: takes a number and answers a number, for every number.
+    unsafe { paw_encode(u32::from_be_bytes(word)) }
+}
+
+#[test]
+fn every_word_of_halt_encodes() {
+    for fields in 0..1 << 24 {
+        let [_, note, b, c] = u32::to_be_bytes(fields);
+        // Number 0 below, the halfword above: what stands in fields that HALT lacks is no matter.
+        assert_eq!(encode([HALT, note, b, c]), u32::from(note) << 16, "{note} {b} {c}");
+    }
+}
+
+#[test]
+fn no_other_kind_is_beside_it() {
+    for kind in (HALT + 1)..=u8::MAX {
+        for note in [0, 1, 7, 255] {
+            assert_eq!(encode([kind, note, 0, 0]), 17, "kind {kind}");
+        }
+    }
+}
+
+#[test]
+fn every_halfword_is_a_halt_or_not() {
+    let mut halts = 0;
+    for halfword in 0..=u16::MAX {
+        let word = decode(halfword);
+        let [kind, note, b, c] = word.to_be_bytes();
+        match halfword {
+            0x0000..=0x00FF => assert_eq!((kind, u16::from(note), b, c), (HALT, halfword, 0, 0)),
+            0x0100..=0x1FFF => assert_eq!(word, 0, "{halfword:#06x}"),
+            _ => assert_ne!(kind, HALT, "{halfword:#06x}"),
+        }
+        if word != 0 {
+            assert_eq!(encode(word.to_be_bytes()), u32::from(halfword) << 16);
+        }
+        halts += usize::from(kind == HALT);
+    }
+    assert_eq!(halts, 256);
+}
+
+/// Bytes of the record: registers, four flags, the note, and one that is nobody's.
+const BYTES: usize = 38;
+const NOTE: usize = 36;
+const SPARE: usize = 37;
+const GUARD: [u8; 26] = [0xA7; 26];
+
+/// A record that is aligned as C aligns it, between bytes that no call may change.
+#[repr(C, align(2))]
+#[derive(Clone)]
+struct Record {
+    before: [u8; 26],
+    bytes: [u8; BYTES],
+    after: [u8; 26],
+}
+
+impl Record {
+    /// Any registers but R15, which is 0, and any flags.
+    fn any(rng: &mut Rng, note: u8, spare: u8) -> Self {
+        let mut bytes = [0; BYTES];
+        bytes[..30].iter_mut().for_each(|byte| *byte = rng.u8());
+        bytes[32..NOTE].iter_mut().for_each(|flag| *flag = rng.u8() & 1);
+        (bytes[NOTE], bytes[SPARE]) = (note, spare);
+        Record { before: GUARD, bytes, after: GUARD }
+    }
+
+    /// All that has a meaning.
+    fn meaning(&self) -> &[u8] {
+        assert_eq!([self.before, self.after], [GUARD; 2], "bytes that were not lent changed");
+        &self.bytes[..SPARE]
+    }
+
+    fn step(&mut self, memory: &mut [u8]) -> u32 {
+        // SAFETY: the record has the library's size and alignment, its flags are 0 or 1, and both
+        // are borrowed for the call.
+        unsafe { paw_step(self.bytes.as_mut_ptr(), memory.as_mut_ptr(), memory.len()) }
+    }
+
+    fn run(&mut self, memory: &mut [u8], budget: u32) -> u64 {
+        // SAFETY: as for `step`.
+        unsafe { paw_run(self.bytes.as_mut_ptr(), memory.as_mut_ptr(), memory.len(), budget) }
+    }
+}
+
+fn memory_of(code: &[u16]) -> Vec<u8> {
+    let mut memory = vec![0; MEMORY_BYTES];
+    place_code(code, &mut memory);
+    memory
+}
+
+/// HALT writes the byte behind the flags, and no other that has a meaning.
+#[test]
+fn the_note_is_the_byte_behind_the_flags() {
+    let mut rng = Rng::new(801);
+    let mut memory = memory_of(&[]);
+    for (noted, spare) in (0..=u8::MAX).flat_map(|noted| [0, 1, 0x80, 0xFF].map(|s| (noted, s))) {
+        place_code(&[noted.into()], &mut memory);
+        let start = Record::any(&mut rng, !noted, spare);
+        let mut expected = start.bytes;
+        expected[NOTE] = noted;
+
+        let mut stepped = start.clone();
+        assert_eq!(stepped.step(&mut memory), MET_HALT);
+        assert_eq!(stepped.meaning(), &expected[..SPARE]);
+
+        let mut ran = start.clone();
+        assert_eq!(ran.run(&mut memory, 1), MET_HALT.into());
+        assert_eq!(ran.meaning(), &expected[..SPARE]);
+
+        let mut spent = start.clone();
+        assert_eq!(spent.run(&mut memory, 0), 0);
+        assert_eq!(spent.meaning(), start.meaning());
+    }
+}
+
+/// A program of which every step and end is the same, whatever stands in the byte that is nobody's.
+#[test]
+fn nothing_depends_on_the_last_byte() {
+    let mut rng = Rng::new(802);
+    // MOV R0, #200; NEG R1, R0; ADD R2, R1; STRB R2, [R0, #0]; HALT #77
+    let code = [0x20C8, 0x4101, 0x440A, 0x7002, 0x004D];
+    for note in 0..=u8::MAX {
+        let start = Record::any(&mut rng, note, 0);
+        for budget in 0..=5u32 {
+            let ends = [0, 1, 0x7F, 0xFF].map(|spare| {
+                let (mut record, mut memory) = (start.clone(), memory_of(&code));
+                record.bytes[SPARE] = spare;
+                let answer = record.run(&mut memory, budget);
+                (answer, record.meaning().to_vec(), memory)
+            });
+            assert!(ends.iter().all(|end| *end == ends[0]), "{note} {budget}");
+            let (answer, bytes, _) = &ends[0];
+            let halted = budget == 5;
+            let number = if halted { MET_HALT } else { 0 };
+            assert_eq!(*answer, u64::from(budget.min(4)) << 32 | u64::from(number));
+            assert_eq!(bytes[NOTE], if halted { 77 } else { note });
+        }
+    }
+}
+
+/// The crate's own record has that byte as padding, which comparisons and hashes pass over.
+#[test]
+fn machines_are_equal_by_their_fields() {
+    let hash = |machine: &paw::Machine| {
+        let mut hasher = DefaultHasher::new();
+        machine.hash(&mut hasher);
+        hasher.finish()
+    };
+    let machine = paw::Machine { note: 7, c: true, ..paw::Machine::default() };
+    let [one, other] = [0x00, 0xFF].map(|spare| {
+        let mut place = Box::new(MaybeUninit::new(machine));
+        // SAFETY: the byte lies within the record, and any value may stand in its padding.
+        unsafe { place.as_mut_ptr().cast::<u8>().add(SPARE).write(spare) };
+        place
+    });
+    // SAFETY: both were made from a whole machine.
+    let (one, other) = unsafe { (one.assume_init_ref(), other.assume_init_ref()) };
+    assert_eq!(one, other);
+    assert_eq!(hash(one), hash(other));
+    assert_ne!(*one, paw::Machine { note: 8, ..*other });
+}
