@@ -8,7 +8,7 @@ use native.Mathlib.Omega.{arith}
 use lib.Dec.{eqb}
 use lib.ListN.{length}
 use Rattle.units.specs.Address.{memoryBytes}
-use Rattle.units.specs.Bytes.{byteAt, halfwordAt, withHalfword}
+use Rattle.units.specs.Bytes.{halfwordAt, withHalfword}
 use Rattle.refusals.specs.Refusal.{refusal}
 use Rattle.refusals.specs.declared.refusal.Refusal.{Refusal}
 use Rattle.isa.specs.declared.decoder.Decoded.{Decoded}
@@ -19,7 +19,7 @@ use Rattle.isa.proofs.Halts.{halt-own}
 use Rattle.cpu.specs.declared.machine.Machine.{Machine}
 use Rattle.cpu.specs.declared.outcome.Outcome.the-variants.{Completed, Halted, Stopped, Refused}
 use Rattle.cpu.specs.Machine.{pc, flags, updated, withNote, advanced, written, reg}
-use Rattle.cpu.specs.Step.{StepResult, stepResult, completed, stopped, effectiveAddress, aligned, ldrOf, strOf, strbOf, executeOf, executeDecoded, fetched, fetchAndExecute, stepOf}
+use Rattle.cpu.specs.Step.{StepResult, stepResult, completed, stopped, effectiveAddress, aligned, ldrOf, strOf, strbOf, executeOf, executeDecoded, fetched, lowByte, fetchAndExecute, stepOf}
 
 -- what holds of both arms of a test holds of the test's
 pub cond-keeps : {A : Type 0} (Q : A → Type 0) (test : Bool) (x y : A) → Q x → Q y → Q (cond test x y)
@@ -81,7 +81,7 @@ execute-whole note (Halt own) m memory is = inr (inl (ap (λ (n : ℕ). stepResu
 
 module _ (m : Machine) (memory : List ℕ) where
   abbrev low : ℕ
-  low = byteAt memory (pc m)
+  low = lowByte (record { machine = m; memory = memory })
 
   decoded-whole : (d : Decoded) → fetched m memory ≡ d → Ending low m memory (executeDecoded d m memory)
   unfolding fetched
@@ -98,7 +98,7 @@ module _ (m : Machine) (memory : List ℕ) where
       (decoded-whole (fetched m memory) refl) (inr (inr (refl, stopped-not-halted 18))))
       (inr (inr (refl, refused-not-halted (refusal 1))))
 
--- a step that ends by HALT has set the note, and nothing else
-pub halted-step : (m : Machine) (memory : List ℕ) → stepOf m memory .outcome ≡ Halted → Halts (byteAt memory (pc m)) m memory (stepOf m memory)
-halted-step m memory e =
-    ⊎-elim (λ c. absurd (halted-not-completed (sym e ∙ c))) (⊎-elim (λ halts. halts) (λ stays. absurd (stays .1 e))) (how-ends m memory)
+  -- a step that ends by HALT has set the note, and nothing else
+  pub halted-step : stepOf m memory .outcome ≡ Halted → Halts low m memory (stepOf m memory)
+  halted-step e =
+      ⊎-elim (λ c. absurd (halted-not-completed (sym e ∙ c))) (⊎-elim (λ halts. halts) (λ stays. absurd (stays .1 e))) how-ends

@@ -168,6 +168,10 @@ executeDecoded Undefined m memory = stopped 19 m memory
 unfoldable pub fetched : Machine → List ℕ → Decoded
 fetched m memory = decodeOf (halfwordAt memory (pc m))
 
+-- the low byte of that halfword, which is HALT's note (Change 1)
+abbrev pub lowByte : State → ℕ
+lowByte s = byteAt (s .memory) (pc (s .machine))
+
 -- an odd PC: stop 18
 unfoldable pub fetchAndExecute : Machine → List ℕ → StepResult
 fetchAndExecute m memory = cond (eqb (pc m % 2) 0) (executeDecoded (fetched m memory) m memory) (stopped 18 m memory)

@@ -7,13 +7,13 @@ use Rattle.cpu.specs.declared.outcome.Outcome.{Outcome}
 use Rattle.cpu.specs.declared.outcome.Outcome.the-variants.{Completed, Halted, Stopped, Refused}
 use Rattle.runner.specs.declared.runs.RunOutcome.{RunOutcome}
 use Rattle.runner.specs.declared.runs.RunOutcome.the-variants as run
-use Rattle.cpu.specs.Step.{StepResult}
+use Rattle.cpu.specs.Step.{StepResult, lowByte}
 use Rattle.runner.specs.Run.{RunResult, outcomeAt, nextState, runOf}
 use Rattle.runner.specs.Lent.{noteLeft}
 use Rattle.cpu.proofs.Endings.{halted-step}
 use Rattle.cpu.proofs.Notes.{keeping, step-note}
 use Rattle.runner.proofs.Noted.{run-noted}
-use Rattle.cpu_laws.specs.Notes.{lowByte, NoteSet, NoteKept, RunNoteSet, RunNoteKept}
+use Rattle.cpu_laws.specs.Notes.{NoteSet, NoteKept, RunNoteSet, RunNoteKept}
 
 pub note-set : NoteSet
 note-set s e = ap (λ (r : StepResult). r .state) (halted-step (s .machine) (s .memory) e)

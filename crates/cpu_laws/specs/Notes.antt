@@ -3,19 +3,14 @@
 use mathlib.Core.List.{List}
 use mathlib.Core.Path.{_≡_}
 use Prim.Native.Nat.{ℕ}
-use Rattle.units.specs.Bytes.{byteAt}
 use Rattle.cpu.specs.declared.machine.Machine.{Machine}
 use Rattle.cpu.specs.declared.outcome.Outcome.the-variants.{Halted}
 use Rattle.runner.specs.declared.runs.RunOutcome.the-variants as run
-use Rattle.cpu.specs.Machine.{pc, withNote}
-use Rattle.cpu.specs.Step.{State}
+use Rattle.cpu.specs.Machine.{withNote}
+use Rattle.cpu.specs.Step.{State, lowByte}
 use Rattle.runner.specs.Run.{state, outcomeAt, nextState, runOf}
 
--- the low byte of the halfword that the PC stands on
-abbrev pub lowByte : State → ℕ
-lowByte s = byteAt (s .memory) (pc (s .machine))
-
--- a state with that byte as note, and all else as it is
+-- a state with the low byte of the halfword at the PC as note, and all else as it is
 abbrev pub haltedState : State → State
 haltedState s = state (withNote (lowByte s) (s .machine)) (s .memory)
 

@@ -6,36 +6,31 @@ use Prim.Native.Nat.{ℕ, zero, suc, _+_}
 use lib.Dec.{eqb}
 use lib.ListN.{length}
 use Rattle.units.specs.Address.{memoryBytes}
-use Rattle.units.specs.Bytes.{byteAt}
 use Rattle.refusals.specs.Refusal.{refusal}
 use Rattle.cpu.specs.declared.machine.Machine.{Machine}
 use Rattle.cpu.specs.declared.outcome.Outcome.{Outcome}
 use Rattle.cpu.specs.declared.outcome.Outcome.the-variants.{Completed, Halted, Stopped, Refused}
-use Rattle.cpu.specs.Machine.{pc, withNote}
-use Rattle.cpu.specs.Step.{State, StepResult}
+use Rattle.cpu.specs.Machine.{withNote}
+use Rattle.cpu.specs.Step.{State, StepResult, lowByte}
 use Rattle.cpu.proofs.Endings.{halted-step}
 use Rattle.cpu.proofs.Notes.{keeping, step-note}
 use Rattle.runner.specs.declared.runs.RunOutcome.the-variants as ended
 use Rattle.runner.specs.Run.{RunResult, runResult, state, outcomeAt, nextState, goOn, runFrom, runOf}
 use Rattle.runner.specs.Lent.{noteLeft, unnotedRun}
 
--- the byte on which the PC stands
-abbrev low : State → ℕ
-low s = byteAt (s .memory) (pc (s .machine))
-
 -- a result with the note that a run leaves, where it was this before
 abbrev pub renoted : ℕ → RunResult → RunResult
-renoted n r = runResult (withNote (noteLeft (r .outcome) (low (r .state)) n) (r .state .machine)) (r .state .memory) (r .outcome) (r .count)
+renoted n r = runResult (withNote (noteLeft (r .outcome) (lowByte (r .state)) n) (r .state .machine)) (r .state .memory) (r .outcome) (r .count)
 
 abbrev noting : ℕ → State → State
 noting n s = state (withNote n (s .machine)) (s .memory)
 
 -- HALT has set it already
-set-here : (s : State) → outcomeAt s ≡ Halted → nextState s .machine .note ≡ low (nextState s)
-set-here s e = subst⁻¹ (λ (r : StepResult). r .state .machine .note ≡ low (r .state)) (halted-step (s .machine) (s .memory) e) refl
+set-here : (s : State) → outcomeAt s ≡ Halted → nextState s .machine .note ≡ lowByte (nextState s)
+set-here s e = subst⁻¹ (λ (r : StepResult). r .state .machine .note ≡ lowByte (r .state)) (halted-step (s .machine) (s .memory) e) refl
 
 -- after a step: the rest of the run goes the same way
-turn-noted : (n : ℕ) (o : Outcome) (s : State) (count : ℕ) (rest rest′ : RunResult) → (o ≡ Halted → s .machine .note ≡ low s) → (o ≡ Completed → rest′ ≡ renoted n rest)
+turn-noted : (n : ℕ) (o : Outcome) (s : State) (count : ℕ) (rest rest′ : RunResult) → (o ≡ Halted → s .machine .note ≡ lowByte s) → (o ≡ Completed → rest′ ≡ renoted n rest)
     → goOn o (state (keeping o n (s .machine)) (s .memory)) count rest′ ≡ renoted n (goOn o s count rest)
 turn-noted n Completed s count rest rest′ set e = e refl
 turn-noted n Halted s count rest rest′ set e = ap (λ (x : ℕ). runResult (withNote x (s .machine)) (s .memory) ended.Halted count) (set refl)
