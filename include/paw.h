@@ -30,10 +30,10 @@ extern "C" {
 
 /* The version of this header; paw_version tells that of the library. */
 #define PAW_VERSION_MAJOR 0
-#define PAW_VERSION_MINOR 2
+#define PAW_VERSION_MINOR 3
 #define PAW_VERSION_PATCH 0
 
-/* The version as one number, larger for a later one, and as text, "0.2.0". */
+/* The version as one number, larger for a later one, and as text, "0.3.0". */
 #define PAW_VERSION (PAW_VERSION_MAJOR * 65536u + PAW_VERSION_MINOR * 256u + PAW_VERSION_PATCH)
 #define PAW_VERSION_STRING                                                                         \
     PAW_QUOTE(PAW_VERSION_MAJOR) "." PAW_QUOTE(PAW_VERSION_MINOR) "." PAW_QUOTE(PAW_VERSION_PATCH)
@@ -50,7 +50,8 @@ enum {
 
 /*
  * Whether a call was refused: PAW_OK, or the number of the first check that failed. A refused call
- * has changed nothing. paw_step and paw_run answer how they ended instead, see enum paw_ending.
+ * has changed nothing. paw_step and paw_run answer how they ended instead, see enum paw_ending,
+ * and what data they touched, see enum paw_touch.
  */
 enum paw_number {
     PAW_OK = 0,             /* passed, loaded, packed, encoded or read */
@@ -74,9 +75,10 @@ enum paw_number {
 };
 
 /*
- * How a step or a run ended. The number 0 has two names, since it says two things: that a step was
- * completed, and that a run has spent its budget, though the program may not have done its work.
- * That it has come to its end is PAW_HALT. Either call may be refused instead: PAW_MEMORY_SIZE.
+ * How a step or a run ended, which paw_step_number and paw_run_number take out of an answer. The
+ * number 0 has two names, since it says two things: that a step was completed, and that a run has
+ * spent its budget, though the program may not have done its work. That it has come to its end is
+ * PAW_HALT. Either call may be refused instead: PAW_MEMORY_SIZE.
  */
 enum paw_ending {
     PAW_COMPLETED = 0,        /* paw_step: the instruction was executed */
@@ -87,7 +89,10 @@ enum paw_ending {
     PAW_HALT = 255            /* the program counter is at HALT; the machine has its note */
 };
 
-/* What a number says, in words for people. 0 is "ok"; for a run see paw_run_text. */
+/*
+ * What a number says, in words for people: that of a refusal or an ending, not a whole answer of
+ * paw_step. 0 is "ok"; for a run see paw_run_text.
+ */
 static inline const char *paw_text(uint32_t number)
 {
     switch (number) {
@@ -286,24 +291,33 @@ PAW_STATIC_ASSERT(offsetof(struct paw_machine, v) == 35, "a flag is one byte");
 PAW_STATIC_ASSERT(offsetof(struct paw_machine, note) == 36, "the note stands behind the flags");
 
 /*
- * Executes the instruction at the program counter, on this very machine and memory. Answers
- * PAW_COMPLETED, PAW_HALT, PAW_STOP_..., or PAW_MEMORY_SIZE; after all but PAW_COMPLETED, machine
- * and memory are as they were, but that PAW_HALT sets the note.
+ * Executes the instruction at the program counter, on this very machine and memory. Answers how
+ * the step ended and, of a completed one, what data it touched: paw_step_number and paw_touched
+ * take the answer apart. (Up to version 0.2 an answer was its number alone. Now it is PAW_COMPLETED
+ * as it stands only if no data were touched.) After all endings but PAW_COMPLETED, machine and
+ * memory are as they were, but that PAW_HALT sets the note.
  */
 uint32_t paw_step(struct paw_machine *machine, uint8_t *memory, size_t memory_len);
 
+/* How a step ended: PAW_COMPLETED, PAW_HALT, PAW_STOP_... or PAW_MEMORY_SIZE. */
+static inline uint32_t paw_step_number(uint32_t answer)
+{
+    return answer & 255;
+}
+
 /*
  * Executes up to `budget` instructions, on this very machine and memory. Answers how the run
- * ended and how many steps were completed; the two functions below take the answer apart. A run
- * that has completed `budget` steps, be it none, is PAW_SPENT, whatever the next one would do. One
- * that answers PAW_HALT has come to a HALT with some of the budget left, and has set the note.
+ * ended, how many steps were completed, and what data the last of these touched; paw_run_number,
+ * paw_run_steps and paw_touched take the answer apart. A run that has completed `budget` steps, be
+ * it none, is PAW_SPENT, whatever the next one would do. One that answers PAW_HALT has come to a
+ * HALT with some of the budget left, and has set the note.
  */
 uint64_t paw_run(struct paw_machine *machine, uint8_t *memory, size_t memory_len, uint32_t budget);
 
 /* How a run ended: PAW_SPENT, PAW_HALT, PAW_STOP_... or PAW_MEMORY_SIZE. */
 static inline uint32_t paw_run_number(uint64_t answer)
 {
-    return (uint32_t)answer;
+    return (uint32_t)(answer & 255);
 }
 
 /* How a run ended, in words for people: paw_text, but a spent budget is told as such. */
@@ -317,6 +331,67 @@ static inline const char *paw_run_text(uint64_t answer)
 static inline uint32_t paw_run_steps(uint64_t answer)
 {
     return (uint32_t)(answer >> 32);
+}
+
+/*
+ * The data that a step touched: what a load read or a store wrote. The instruction that is fetched
+ * is no data. Only a completed step tells, and a run tells that of its last completed step, however
+ * it ended then; if it completed none, it tells no data.
+ */
+enum paw_touch {
+    PAW_NO_DATA = 0,
+    PAW_READ_BYTE = 1,
+    PAW_READ_HALFWORD = 2,
+    PAW_WROTE_BYTE = 3,
+    PAW_WROTE_HALFWORD = 4
+};
+
+/* What an answer of paw_step or of paw_run says of data: a number of enum paw_touch. */
+static inline uint32_t paw_touched(uint64_t answer)
+{
+    return (uint32_t)(answer >> 8 & 255);
+}
+
+/*
+ * The byte address of the first byte touched, as the machine used it, wrapped to 16 bits. It is 0
+ * if no data were touched; but 0 is an address too, so ask paw_touched first.
+ */
+static inline uint16_t paw_touched_address(uint64_t answer)
+{
+    return (uint16_t)(answer >> 16);
+}
+
+/* How many bytes were touched: 0, 1 or 2. They never go past the end of memory. */
+static inline uint32_t paw_touched_bytes(uint64_t answer)
+{
+    uint32_t touched = paw_touched(answer);
+    return touched == PAW_NO_DATA ? 0 : 2 - touched % 2;
+}
+
+/* Whether data were read, and whether they were written. */
+static inline bool paw_touched_read(uint64_t answer)
+{
+    uint32_t touched = paw_touched(answer);
+    return touched == PAW_READ_BYTE || touched == PAW_READ_HALFWORD;
+}
+
+static inline bool paw_touched_wrote(uint64_t answer)
+{
+    uint32_t touched = paw_touched(answer);
+    return touched == PAW_WROTE_BYTE || touched == PAW_WROTE_HALFWORD;
+}
+
+/* What was touched, in words for people, without the address. */
+static inline const char *paw_touched_text(uint64_t answer)
+{
+    switch (paw_touched(answer)) {
+    case PAW_NO_DATA: return "no data";
+    case PAW_READ_BYTE: return "read 1 byte";
+    case PAW_READ_HALFWORD: return "read 2 bytes";
+    case PAW_WROTE_BYTE: return "wrote 1 byte";
+    case PAW_WROTE_HALFWORD: return "wrote 2 bytes";
+    default: return "no kind of access";
+    }
 }
 
 /* Images ----------------------------------------------------------------------------------- */

@@ -1,6 +1,7 @@
 /*
  * The library as firmware uses it, through paw.h: the sample program P is packed, checked,
- * verified, loaded and run, and programs say by notes how they ended. It is C11 and C++11 at once.
+ * verified, loaded and run, programs say by notes how they ended, and steps and runs what data they
+ * touched. It is C11 and C++11 at once.
  *
  *     cc -std=c11 -Wall -Wextra -Werror -Iinclude tests/firmware.c target/staticlib/libpaw.a
  */
@@ -188,7 +189,7 @@ static void test_offsets(void)
         size_t address = 0x1000 + (kinds[i] == PAW_KIND_STR ? 4 * 31 : 31);
         memset(memory, 0, sizeof memory);
         put_halfword(0, halfword);
-        EXPECT(paw_step(&machine, memory, sizeof memory) == PAW_COMPLETED);
+        EXPECT(paw_step_number(paw_step(&machine, memory, sizeof memory)) == PAW_COMPLETED);
         EXPECT(memory[address] == 0xEF);
         EXPECT(memory[address + 1] == (kinds[i] == PAW_KIND_STR ? 0xBE : 0));
     }
@@ -460,7 +461,7 @@ static void expect_note_left(struct paw_machine start, size_t memory_len, uint32
     for (unsigned note = 0; note < 256; note++) {
         start.note = (uint8_t)note;
         struct paw_machine stepped = start, ran = start;
-        EXPECT(paw_step(&stepped, memory, memory_len) == ending);
+        EXPECT(paw_step_number(paw_step(&stepped, memory, memory_len)) == ending);
         EXPECT(paw_run_number(paw_run(&ran, memory, memory_len, 1)) == ending);
         EXPECT(stepped.note == note && ran.note == note && same_machine(&stepped, &ran));
         EXPECT(ending == PAW_COMPLETED || same_machine(&stepped, &start));
@@ -496,7 +497,7 @@ static void test_notes_of_halfwords(void)
             uint8_t note = halfword <= 0x00FF ? (uint8_t)halfword : earlier;
             struct paw_machine stepped = machine_of(values[i], earlier), ran = stepped;
             put_halfword(SOMEWHERE, halfword);
-            uint32_t ending = paw_step(&stepped, memory, sizeof memory);
+            uint32_t ending = paw_step_number(paw_step(&stepped, memory, sizeof memory));
             EXPECT((ending == PAW_HALT) == (halfword <= 0x00FF));
             EXPECT(paw_run_number(paw_run(&ran, memory, sizeof memory, 1)) == ending);
             EXPECT(stepped.note == note && ran.note == note);
@@ -526,6 +527,147 @@ static void test_two_endings(void)
     }
 }
 
+/* An answer of a step or a run says that these data were touched, in every way of asking. */
+static void expect_touch(uint64_t answer, uint32_t touch, uint16_t address, uint32_t bytes)
+{
+    EXPECT(paw_touched(answer) == touch);
+    EXPECT(paw_touched_address(answer) == address);
+    EXPECT(paw_touched_bytes(answer) == bytes);
+    EXPECT(paw_touched_read(answer) == (touch == PAW_READ_BYTE || touch == PAW_READ_HALFWORD));
+    EXPECT(paw_touched_wrote(answer) == (touch == PAW_WROTE_BYTE || touch == PAW_WROTE_HALFWORD));
+}
+
+/* Of a run of the most steps at the highest address, the address of a step being as high. */
+static void test_touched_texts(void)
+{
+    static const char *const texts[] = {"no data", "read 1 byte", "read 2 bytes", "wrote 1 byte",
+                                        "wrote 2 bytes", "no kind of access"};
+    for (uint64_t touch = 0; touch < sizeof texts / sizeof texts[0]; touch++) {
+        uint64_t answer = touch << 8 | 0xFFFFFFFFFFFF00FF;
+        EXPECT(strcmp(paw_touched_text(touch << 8), texts[touch]) == 0);
+        EXPECT(strcmp(paw_touched_text(answer), texts[touch]) == 0);
+        EXPECT(paw_touched(answer) == touch && paw_touched_address(answer) == 0xFFFF);
+        EXPECT(paw_run_number(answer) == PAW_HALT && paw_run_steps(answer) == 0xFFFFFFFF);
+        EXPECT(paw_step_number((uint32_t)answer) == PAW_HALT);
+    }
+}
+
+/* The four accesses with R0 as their base and R1 as what is loaded or stored, at offset 0. */
+static const struct access {
+    uint16_t halfword;
+    uint32_t touch;
+    uint32_t bytes;
+} accesses[] = {
+    {0x7801, PAW_READ_BYTE, 1},     /* LDRB R1, [R0, #0] */
+    {0x6801, PAW_READ_HALFWORD, 2}, /* LDR R1, [R0, #0] */
+    {0x7001, PAW_WROTE_BYTE, 1},    /* STRB R1, [R0, #0] */
+    {0x6001, PAW_WROTE_HALFWORD, 2} /* STR R1, [R0, #0] */
+};
+
+enum { ACCESSES = sizeof accesses / sizeof accesses[0] };
+
+/* A machine at SOMEWHERE with that in R0. */
+static struct paw_machine machine_with_base(uint16_t base)
+{
+    struct paw_machine machine = machine_of(0x1234, 0);
+    machine.regs[0] = base;
+    return machine;
+}
+
+/* Every offset from bases at both ends of memory. Bytes are counted in ones, halfwords in fours. */
+static void test_touched_addresses(void)
+{
+    static const uint16_t bases[] = {0, 4, 256, 0x8000, 0xFF84, 0xFFFC, 1, 0xFFFF};
+    for (size_t a = 0; a < ACCESSES; a++) {
+        for (size_t b = 0; b < sizeof bases / sizeof bases[0]; b++) {
+            for (unsigned offset = 0; offset < 32; offset++) {
+                struct paw_machine machine = machine_with_base(bases[b]);
+                unsigned unit = accesses[a].bytes == 2 ? 4 : 1;
+                uint16_t address = (uint16_t)(bases[b] + unit * offset);
+                put_halfword(SOMEWHERE, accesses[a].halfword | offset << 6);
+                uint32_t answer = paw_step(&machine, memory, sizeof memory);
+                if (unit == 4 && address % 4 != 0) {
+                    EXPECT(answer == PAW_STOP_MISALIGNED);
+                    expect_touch(answer, PAW_NO_DATA, 0, 0);
+                } else {
+                    EXPECT(paw_step_number(answer) == PAW_COMPLETED);
+                    expect_touch(answer, accesses[a].touch, address, accesses[a].bytes);
+                }
+            }
+        }
+    }
+    struct paw_machine machine = machine_with_base(0xFFFF);
+    put_halfword(SOMEWHERE, 0x7941); /* LDRB R1, [R0, #5] */
+    expect_touch(paw_step(&machine, memory, sizeof memory), PAW_READ_BYTE, 4, 1);
+}
+
+/* What stands behind an access, how a run then ends, and whether its last step is the access. */
+static const struct behind {
+    uint16_t halfword;
+    uint32_t ending;
+    uint32_t steps;
+    bool is_last;
+} behind_access[] = {
+    {0x0007, PAW_HALT, 1, true},            /* HALT #7 */
+    {0xFFFF, PAW_STOP_UNDEFINED, 1, true},  /* no instruction */
+    {0x681A, PAW_STOP_MISALIGNED, 1, true}, /* LDR R2, [R3, #0], with 2 in R3 */
+    {0x601A, PAW_STOP_MISALIGNED, 1, true}, /* STR R2, [R3, #0] */
+    {0x2005, PAW_SPENT, 2, false},          /* MOV R0, #5 */
+    {0xD001, PAW_SPENT, 2, false},          /* BEQ, not taken: Z is clear */
+    {0xD101, PAW_SPENT, 2, false},          /* BNE, taken */
+    {0x4687, PAW_SPENT, 2, false},          /* MOV R15, R0 */
+    {0x4487, PAW_SPENT, 2, false}           /* ADD R15, R0 */
+};
+
+/* A run of budget 2 from each access, and of less. */
+static void test_touched_by_runs(void)
+{
+    for (size_t a = 0; a < ACCESSES; a++) {
+        for (size_t i = 0; i < sizeof behind_access / sizeof behind_access[0]; i++) {
+            const struct behind *behind = &behind_access[i];
+            struct paw_machine machine = machine_with_base(256);
+            machine.regs[3] = 2;
+            const struct paw_machine start = machine;
+            put_halfword(SOMEWHERE, accesses[a].halfword);
+            put_halfword(SOMEWHERE + 2, behind->halfword);
+
+            expect_touch(paw_run(&machine, memory, sizeof memory, 0), PAW_NO_DATA, 0, 0);
+            uint64_t refused = paw_run(&machine, memory, sizeof memory - 1, 2);
+            EXPECT(refused == PAW_MEMORY_SIZE);
+            EXPECT(paw_step(&machine, memory, sizeof memory - 1) == PAW_MEMORY_SIZE);
+            uint64_t one = paw_run(&machine, memory, sizeof memory, 1);
+            EXPECT(paw_run_number(one) == PAW_SPENT && paw_run_steps(one) == 1);
+            expect_touch(one, accesses[a].touch, 256, accesses[a].bytes);
+
+            machine = start;
+            uint64_t two = paw_run(&machine, memory, sizeof memory, 2);
+            EXPECT(paw_run_number(two) == behind->ending && paw_run_steps(two) == behind->steps);
+            if (behind->is_last) {
+                expect_touch(two, accesses[a].touch, 256, accesses[a].bytes);
+                uint64_t again = paw_run(&machine, memory, sizeof memory, 2);
+                EXPECT(again == behind->ending); /* no step was completed, and no data is told */
+            } else {
+                expect_touch(two, PAW_NO_DATA, 0, 0);
+            }
+        }
+    }
+}
+
+/* The end of the sample program P: 252 goes to address 492, and HALT comes next. */
+static void test_touched_by_p(void)
+{
+    struct paw_machine machine = {{0xBEEF}, true, true, true, true, 0};
+    EXPECT(paw_pack(code, CODE_LEN, WINDOW_START, WINDOW_BYTES, file, sizeof file) == PAW_OK);
+    EXPECT(paw_load(file, sizeof file, memory, sizeof memory) == layout_word(14, 256, 256));
+    for (unsigned step = 0; step < CODE_LEN - 2; step++) {
+        EXPECT(paw_step(&machine, memory, sizeof memory) == PAW_COMPLETED); /* and no data */
+    }
+    uint64_t halted = paw_run(&machine, memory, sizeof memory, 1000);
+    EXPECT(paw_run_number(halted) == PAW_HALT && paw_run_steps(halted) == 1);
+    expect_touch(halted, PAW_WROTE_HALFWORD, 492, 2);
+    EXPECT(memory[paw_touched_address(halted)] == 252);
+}
+
 int main(void)
 {
     test_version();
@@ -551,6 +693,10 @@ int main(void)
     test_notes_left();
     test_notes_of_halfwords();
     test_two_endings();
+    test_touched_texts();
+    test_touched_addresses();
+    test_touched_by_runs();
+    test_touched_by_p();
     if (failures == 0) {
         printf("firmware in " LANGUAGE ": P packs, verifies, loads and runs through paw.h\n");
     }

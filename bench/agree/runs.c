@@ -8,6 +8,8 @@
 #include "programs.h"
 #include "random.h"
 
+enum { TOUCHES = PAW_WROTE_HALFWORD + 1 };
+
 /* The same halfword in every memory. */
 static void put_everywhere(uint16_t address, uint16_t h)
 {
@@ -66,17 +68,21 @@ static uint32_t compare_step(const struct paw_machine *start, size_t len, const 
 
 void compare_runs(long cases)
 {
-    long counts[PAW_HALT + 1] = { 0 };
+    long counts[PAW_HALT + 1] = { 0 }, touches[TOUCHES] = { 0 };
     for (long n = 0; n < cases; n++) {
         if (n % 64 == 0) /* in between, runs go on in what the last one left */
             fill_memories(once_in(4) ? 1 + random_below(60) : 0, once_in(4) ? 1 : 40);
         struct paw_machine start = random_machine();
         uint32_t budget = random_below(once_in(8) ? 4 : 600);
         size_t len = once_in(500) ? PAW_MEMORY_BYTES - 1 : PAW_MEMORY_BYTES;
-        counts[paw_run_number(compare_run(&start, len, budget, "run", n))]++;
+        uint64_t answer = compare_run(&start, len, budget, "run", n);
+        counts[paw_run_number(answer)]++;
+        touches[paw_touched(answer)]++;
     }
     printf("%ld runs agree; endings:", cases);
     print_numbers(counts, PAW_HALT + 1);
+    printf("and what they touched last:");
+    print_numbers(touches, TOUCHES);
 }
 
 void compare_halfwords(void)
@@ -136,7 +142,7 @@ void compare_programs(void)
 
 void compare_steps(long cases)
 {
-    long counts[PAW_HALT + 1] = { 0 };
+    long counts[PAW_HALT + 1] = { 0 }, touches[TOUCHES] = { 0 };
     for (long n = 0; n < cases; n++) {
         if (n % 4096 == 0)
             fill_memories(10, 1);
@@ -146,8 +152,12 @@ void compare_steps(long cases)
         if (once_in(4))
             put_everywhere(start.regs[15] & 0xfffe, (uint16_t)random_word());
         size_t len = once_in(500) ? PAW_MEMORY_BYTES + 1 : PAW_MEMORY_BYTES;
-        counts[compare_step(&start, len, "step", n)]++;
+        uint32_t answer = compare_step(&start, len, "step", n);
+        counts[paw_step_number(answer)]++;
+        touches[paw_touched(answer)]++;
     }
     printf("%ld steps agree; endings:", cases);
     print_numbers(counts, PAW_HALT + 1);
+    printf("and what they touched:");
+    print_numbers(touches, TOUCHES);
 }

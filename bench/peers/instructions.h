@@ -13,6 +13,7 @@
  *   WRITE_PC(to)          ends a body: on to any address
  *   STOP(number)          ends a body: no step was made
  *   HALT_WITH(note)       ends a body: no step was made, and the machine gets the note
+ *   TOUCH(touch, address) the step, which will be made, touches these data (enum paw_touch)
  */
 OP(HALT)
 {
@@ -120,6 +121,7 @@ OP(STR)
     if (UNLIKELY(address & 3))
         STOP(PAW_STOP_MISALIGNED);
     put16(mem + address, REG(RD));
+    TOUCH(PAW_WROTE_HALFWORD, address);
     NEXT;
 }
 
@@ -129,18 +131,23 @@ OP(LDR)
     if (UNLIKELY(address & 3))
         STOP(PAW_STOP_MISALIGNED);
     REG(RD) = get16(mem + address);
+    TOUCH(PAW_READ_HALFWORD, address);
     NEXT;
 }
 
 OP(STRB)
 {
-    mem[(uint16_t)(REG(RS) + IMM5)] = (uint8_t)REG(RD);
+    uint32_t address = (uint16_t)(REG(RS) + IMM5);
+    mem[address] = (uint8_t)REG(RD);
+    TOUCH(PAW_WROTE_BYTE, address);
     NEXT;
 }
 
 OP(LDRB)
 {
-    REG(RD) = mem[(uint16_t)(REG(RS) + IMM5)];
+    uint32_t address = (uint16_t)(REG(RS) + IMM5);
+    REG(RD) = mem[address];
+    TOUCH(PAW_READ_BYTE, address);
     NEXT;
 }
 

@@ -24,6 +24,12 @@
 
 #define UNLIKELY(x) __builtin_expect(!!(x), 0)
 
+/* What an answer says of data, above the number of the ending. */
+static inline uint32_t touched_as(enum paw_touch touch, uint32_t address)
+{
+    return (uint32_t)touch << 8 | address << 16;
+}
+
 static inline uint16_t get16(const uint8_t *bytes)
 {
     uint16_t x;

@@ -49,6 +49,7 @@ static inline uint32_t shift_now(struct paw_machine *m, uint32_t a, uint32_t k)
 #define FLAG_Z (m->z)
 #define FLAG_C (m->c)
 #define FLAG_V (m->v)
+#define TOUCH(touch, address) (touched = touched_as(touch, address))
 #define NEXT break
 #define JUMP(to)                                                                                  \
     {                                                                                             \
@@ -73,6 +74,7 @@ uint32_t PEER(step)(struct paw_machine *m, uint8_t *mem, size_t len)
         return PAW_STOP_ODD_PC;
     uint32_t h = get16(mem + pc);
     uint32_t next = pc + 2;
+    uint32_t touched = 0;
     switch (DISPATCH(h)) {
 #include "instructions.h"
     IS_UNDEFINED
@@ -81,5 +83,5 @@ uint32_t PEER(step)(struct paw_machine *m, uint8_t *mem, size_t len)
         __builtin_unreachable();
     }
     regs[15] = (uint16_t)next;
-    return PAW_COMPLETED;
+    return PAW_COMPLETED | touched;
 }

@@ -17,6 +17,7 @@
 #define FLAG_Z RESULT_Z(nz)
 #define FLAG_C carried(&carry)
 #define FLAG_V overflowed(&carry)
+#define TOUCH(touch, address) (last = (struct last_access){ touched_as(touch, address), left })
 #define NEXT break
 #define JUMP(to)                                                                                  \
     {                                                                                             \
@@ -50,6 +51,7 @@ uint64_t PEER(switch_run)(struct paw_machine *m, uint8_t *mem, size_t len, uint3
     uint32_t pc = regs[15];
     uint32_t left = budget;
     uint32_t number = PAW_SPENT;
+    struct last_access last = { 0, 0 };
     if (UNLIKELY(pc & 1)) {
         if (left != 0)
             number = PAW_STOP_ODD_PC;
@@ -81,5 +83,5 @@ end:
     m->z = FLAG_Z;
     m->c = FLAG_C;
     m->v = FLAG_V;
-    return run_answer(number, budget - left);
+    return run_answer(number, budget, left, &last);
 }

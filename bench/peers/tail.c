@@ -12,6 +12,7 @@
 struct state {
     uint16_t regs[16];
     struct carry carry;
+    struct last_access last;
     uint32_t number;
     uint8_t note;
 };
@@ -54,6 +55,8 @@ __attribute__((noinline)) static struct left_over end(struct state *s, uint64_t 
 #define FLAG_Z RESULT_Z(nz)
 #define FLAG_C carried(&s->carry)
 #define FLAG_V overflowed(&s->carry)
+#define TOUCH(touch, address)                                                                     \
+    (s->last = (struct last_access){ touched_as(touch, address), (uint32_t)left })
 #define STOP(number) return end(s, pc, left, nz, number)
 #define HALT_WITH(low)                                                                            \
     {                                                                                             \
@@ -99,6 +102,7 @@ uint64_t PEER(tail_run)(struct paw_machine *m, uint8_t *mem, size_t len, uint32_
     struct state s;
     memcpy(s.regs, m->regs, sizeof s.regs);
     s.carry = carry_of(m->c, m->v);
+    s.last = (struct last_access){ 0, 0 };
     s.note = m->note;
     uint64_t h = get16(mem + pc);
     struct left_over last = handlers[h >> 6](&s, mem, pc, budget, h, result_of(m->n, m->z));
@@ -108,5 +112,5 @@ uint64_t PEER(tail_run)(struct paw_machine *m, uint8_t *mem, size_t len, uint32_
     m->c = carried(&s.carry);
     m->v = overflowed(&s.carry);
     m->note = s.note;
-    return run_answer(s.number, budget - last.left);
+    return run_answer(s.number, budget, last.left, &s.last);
 }

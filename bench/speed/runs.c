@@ -36,7 +36,8 @@ static void run(size_t engine)
 {
     uint64_t answer =
         engines[engine].run(&machines[engine], memories[engine], PAW_MEMORY_BYTES, RUN_STEPS);
-    must(answer == (uint64_t)RUN_STEPS << 32, "the run ended");
+    must(paw_run_number(answer) == PAW_SPENT, "the run ended");
+    must(paw_run_steps(answer) == RUN_STEPS, "the run was cut short");
 }
 
 static void make_steps(size_t engine, step_function *call)
@@ -44,7 +45,7 @@ static void make_steps(size_t engine, step_function *call)
     uint32_t answers = 0;
     for (uint32_t k = 0; k < STEP_CALLS; k++)
         answers |= call(&machines[engine], memories[engine], PAW_MEMORY_BYTES);
-    must(answers == PAW_COMPLETED, "a step ended the program");
+    must(paw_step_number(answers) == PAW_COMPLETED, "a step ended the program");
 }
 
 static void step(size_t engine)

@@ -4,7 +4,7 @@
 
 use core::panic::PanicInfo;
 
-use paw::{Machine, Run, RunOutcome};
+use paw::{Machine, Run, RunOutcome, Traffic};
 
 /// Packs and runs `MOV R0, #7`, `HALT #3`, and answers R0, or 0 if anything else came of it.
 #[unsafe(no_mangle)]
@@ -14,8 +14,9 @@ pub extern "C" fn bare(memory: &mut [u8; paw::MEMORY_BYTES]) -> u16 {
     let ended = paw::pack(&[0x2007, 0x0003], 256, 64, &mut file)
         .and_then(|()| paw::load(&file, memory))
         .and_then(|_| paw::run(&mut machine, memory, 10));
+    let expected = Run { outcome: RunOutcome::Halted, steps: 1, traffic: Traffic::NoData };
     match ended {
-        Ok(Run { outcome: RunOutcome::Halted, steps: 1 }) if machine.note == 3 => machine.regs[0],
+        Ok(run) if run == expected && machine.note == 3 => machine.regs[0],
         _ => 0,
     }
 }

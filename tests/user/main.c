@@ -13,8 +13,14 @@ int main(void)
     for (uint32_t condition = PAW_EQ; condition <= PAW_LE; condition++) {
         printf("condition %u %s\n", (unsigned)condition, paw_condition_name(condition));
     }
+    printf("touched %s\n", paw_touched_text(PAW_NO_DATA));
+    for (uint64_t touch = PAW_READ_BYTE; touch <= PAW_WROTE_HALFWORD; touch++) {
+        uint64_t answer = touch << 8 | (touch % 2 == 0 ? 8 : 7) << 16;
+        printf("touched %s at %u\n", paw_touched_text(answer),
+               (unsigned)paw_touched_address(answer));
+    }
     puts("0 MOV R1, #252\n2 AND R0, R1\n4 MOV R2, #128\n6 ADD R2, R2\n8 ADD R0, R2\n"
          "10 STR R1, [R0, #0]\n12 HALT #0");
-    puts("halted after 6 steps");
+    puts("halted after 6 steps, wrote 2 bytes at 256");
     return 0;
 }

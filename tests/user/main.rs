@@ -4,6 +4,7 @@
 use std::error::Error;
 use std::{env, fs};
 
+use paw::Traffic::{NoData, ReadByte, ReadHalfword, WroteByte, WroteHalfword};
 use paw::{Check, Condition, Machine, RunOutcome, Stop};
 
 fn main() -> Result<(), Box<dyn Error>> {
@@ -18,6 +19,9 @@ fn main() -> Result<(), Box<dyn Error>> {
     for condition in Condition::ALL {
         println!("condition {} {condition}", condition.number());
     }
+    for traffic in [NoData, ReadByte(7), ReadHalfword(8), WroteByte(7), WroteHalfword(8)] {
+        println!("touched {traffic}");
+    }
 
     let file = fs::read(env::args().nth(1).ok_or("no image is named")?)?;
     let mut memory = vec![0; paw::MEMORY_BYTES];
@@ -27,6 +31,6 @@ fn main() -> Result<(), Box<dyn Error>> {
         println!("{} {}", 2 * number, instruction.ok_or("undefined")?);
     }
     let run = paw::run(&mut Machine::default(), &mut memory, 1_000)?;
-    println!("{} after {} steps", run.outcome, run.steps);
+    println!("{} after {} steps, {}", run.outcome, run.steps, run.traffic);
     Ok(())
 }

@@ -1,4 +1,3 @@
-pub mod Access
 pub mod State
 pub mod Questions
 pub mod Numbers

@@ -7,7 +7,7 @@ use Rattle.units.specs.declared.address.ByteAddress.{ByteAddress}
 use Rattle.image.specs.declared.checker.Layout.{Layout}
 use Rattle.domain.specs.declared.value.Value.{Value}
 use Rattle.targets.specs.declared.branch.Target.the-variants.{To}
-use Rattle.checks.specs.Access.{Access}
+use Rattle.isa.specs.Access.{Access}
 use Rattle.checks.specs.State.{pcRegister}
 use Rattle.checks.specs.Questions.{check10, check11, staysInCode, check14}
 

@@ -18,7 +18,7 @@ use Rattle.domain.specs.declared.value.Value.{Value}
 use Rattle.targets.specs.declared.branch.Target.{Target}
 use Rattle.targets.specs.declared.branch.Target.the-variants.{To, Nowhere}
 use Rattle.targets.specs.Jumps.{jumpOf}
-use Rattle.checks.specs.Access.{Access, accessOf}
+use Rattle.isa.specs.Access.{Access, accessOf}
 use Rattle.checks.specs.State.{State, pcRegister, value}
 
 -- 9: the halfword is an instruction

@@ -2,10 +2,11 @@
 use domain::Value;
 use image::Layout;
 use units::ByteAddress;
+ghost use mathlib.Core.Bool.{false};
 ghost use mathlib.Core.Path.{_≡_};
 ghost use Prim.Native.Nat.{_<_};
 ghost use Rattle.units.specs.Field.{field};
-ghost use Rattle.checks.specs.Access.{halfwordAccess, byteAccess};
+ghost use Rattle.isa.specs.Access.{halfwordAccess, byteAccess};
 ghost use Rattle.checks.specs.Numbers.{accessNumber, writeNumber, targetNumber, lastNumber};
 
 // R15 is the PC.
@@ -22,11 +23,11 @@ pub fn check_last(h: u16) -> u8
 }
 
 // Checks 10 and 11 of a load or store of `size` bytes, `offset` bytes past a
-// base. The sums are wider than an address, so that a high base can't wrap into
-// the window.
+// base; stores are asked no more than loads. The sums are wider than an address,
+// so that a high base can't wrap into the window.
 fn check_access(base: Value, layout: Layout, offset: u16, size: u8) -> u8
     requires { ⌜ 0 < size ⌝ }
-    ensures { λ r. ⌜ r ≡ accessNumber base layout (record { base = 0; offset = offset; size = size }) ⌝ }
+    ensures { λ r. ⌜ r ≡ accessNumber base layout (record { base = 0; offset = offset; size = size; stores = false }) ⌝ }
 {
     let start = layout.window_start as u32;
     let end = start + layout.window_length as u32;

@@ -5,3 +5,4 @@ pub mod Dispatch
 pub mod Fetch
 pub mod Endings
 pub mod Notes
+pub mod Traffic

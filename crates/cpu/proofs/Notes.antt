@@ -2,7 +2,7 @@
 -- unless HALT has left its own.
 use mathlib.Core.Bool.{Bool, true, false, cond}
 use mathlib.Core.List.{List}
-use mathlib.Core.Path.{_≡_, refl, sym, ap, _∙_}
+use mathlib.Core.Path.{_≡_, refl, sym, ap, ap₂, _∙_}
 use Prim.Native.Nat.{ℕ, _*_, _%_}
 use lib.Dec.{eqb}
 use lib.ListN.{length}
@@ -16,6 +16,7 @@ use Rattle.cpu.specs.declared.outcome.Outcome.{Outcome}
 use Rattle.cpu.specs.declared.outcome.Outcome.the-variants.{Completed, Halted, Stopped, Refused}
 use Rattle.cpu.specs.Machine.{withNote, pc}
 use Rattle.cpu.specs.Held.{unnoted}
+use Rattle.cpu.specs.Traffic.{decodedTraffic, whenCompleted, stepTraffic}
 use Rattle.cpu.specs.Step.{State, StepResult, stepResult, effectiveAddress, aligned, executeOf, executeDecoded, fetched, fetchAndExecute, stepOf, movImmOf, cmpImmOf, andOf, eorOf, asrOf, tstOf, negOf, cmpOf, addHighOf, cmpHighOf, movHighOf, strOf, ldrOf, strbOf, ldrbOf, addPcOf, branchOf}
 
 -- HALT's own note stays
@@ -63,6 +64,15 @@ module _ (n : ℕ) (m : Machine) (memory : List ℕ) where
   unfolding stepOf fetchAndExecute fetched
   step-note =
       either (eqb (length memory) memoryBytes) n _ _ _ _ (either (eqb (pc m % 2) 0) n _ _ _ _ (decoded-note (fetched m memory)) refl) refl
+
+-- nor does it count in what is touched
+pub traffic-note : (n : ℕ) (m : Machine) (memory : List ℕ) → stepTraffic (withNote n m) memory ≡ stepTraffic m memory
+unfolding stepTraffic fetched
+traffic-note n m memory = ap₂ whenCompleted (ap (λ (r : StepResult). r .outcome) (step-note n m memory)) (decoded (fetched m memory))
+  where
+    decoded : (d : Decoded) → decodedTraffic d (withNote n m) ≡ decodedTraffic d m
+    decoded (Defined i) = refl
+    decoded Undefined = refl
 
 -- so a machine with note 0 keeps that unless HALT sets it
 pub bare-step : (m : Machine) (memory : List ℕ) → (stepOf (withNote 0 m) memory .outcome ≡ Halted → ⊥)

@@ -12,13 +12,17 @@ use Rattle.units.specs.Field.{field}
 use Rattle.isa.specs.Decode.{only, branchOf, decodeOf}
 use Rattle.isa.specs.declared.decoder.Decoded.{Decoded}
 use Rattle.isa.specs.declared.decoder.Decoded.the-variants.{Undefined}
+use Rattle.isa.specs.declared.instruction.Instruction.{Instruction}
 use Rattle.alu.specs.declared.control.Control.{Control}
 use Rattle.alu.specs.Control.{flagsIn}
 use Rattle.alu.specs.Flags.{Flags}
 use Rattle.cpu.specs.declared.machine.Machine.{Machine}
 use Rattle.cpu.specs.declared.held.Executed.{Executed}
 use Rattle.cpu.specs.Machine.{machine, withNote}
-use Rattle.cpu.specs.Step.{StepResult, stepResult, executeDecoded}
+use Rattle.traffic.specs.declared.data.Traffic.{Traffic}
+use Rattle.cpu.specs.Step.{StepResult, stepResult, executeOf, executeDecoded}
+use Rattle.cpu.specs.Traffic.{trafficOf, decodedTraffic, whenCompleted}
+use Rattle.traffic.specs.Log.{logged}
 
 -- the same flags at another PC
 abbrev pub moved : ℕ → Control → Control
@@ -45,14 +49,32 @@ pub record Holds (regs : List ℕ) (k : Control) (m : Machine) : Type 0 where
 abbrev pub unnoted : StepResult → StepResult
 unnoted r = stepResult (withNote 0 (r .state .machine)) (r .state .memory) (r .outcome)
 
+-- a step's result, and the log after it (Change 2)
+pub record Told : Type 0 where
+  pub result : StepResult
+  pub log : List ℕ
+
+-- of the step with a number, which touches this if it completes
+abbrev pub telling : StepResult → Traffic → ℕ → List ℕ → Told
+telling r t step log = record { result = r; log = logged step (whenCompleted (r .outcome) t) log }
+
+-- that of an instruction, and of a halfword so decoded
+abbrev pub toldOf : Instruction → Machine → List ℕ → ℕ → List ℕ → Told
+toldOf i m memory = telling (executeOf i m memory) (trafficOf i m)
+
+abbrev pub toldDecoded : Decoded → Machine → List ℕ → ℕ → List ℕ → Told
+toldDecoded d m memory = telling (executeDecoded d m memory) (decodedTraffic d m)
+
 -- such a result is held
-pub record Leads (regs : List ℕ) (e : Executed) (memory : List ℕ) (r : StepResult) : Type 0 where
-  pub result : stepResult (held regs (e .control)) memory (e .outcome) ≡ unnoted r
+pub record Leads (regs : List ℕ) (e : Executed) (memory log : List ℕ) (q : Told) : Type 0 where
+  pub result : stepResult (held regs (e .control)) memory (e .outcome) ≡ unnoted (q .result)
+  pub logs : log ≡ q .log
   pub whole : Whole regs
 
--- what a halfword does that leaves registers and memory alone, whatever they are
+-- what a halfword does that leaves registers, memory and log alone, whatever they are
 abbrev pub Beside : Executed → Control → Decoded → Type 0
-Beside e k d = (regs memory : List ℕ) → Whole regs → Leads regs e memory (executeDecoded d (held regs k) memory)
+Beside e k d =
+    (regs memory log : List ℕ) (step : ℕ) → Whole regs → Leads regs e memory log (toldDecoded d (held regs k) memory step log)
 
 -- what a branch leaves beside the registers, taken or not
 abbrev pub branched : Bool → ℕ → Control → Control

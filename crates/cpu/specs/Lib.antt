@@ -1,3 +1,4 @@
 pub mod Machine
 pub mod Step
+pub mod Traffic
 pub mod Held

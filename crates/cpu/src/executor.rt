@@ -25,8 +25,10 @@ ghost use mathlib.Core.Path.{_≡_};
 ghost use lib.ListN.{length};
 ghost use Rattle.units.specs.Address.{memoryBytes};
 ghost use Rattle.isa.specs.Decode.{haltOf, decodeOf};
-ghost use Rattle.cpu.specs.Step.{stepResult, executeDecoded, fetchAndExecute};
-ghost use Rattle.cpu.specs.Held.{held, unnoted, Whole, Leads, Beside, branchElse, otherElse};
+ghost use Rattle.cpu.specs.Step.{stepResult, stepOf};
+ghost use Rattle.cpu.specs.Traffic.{stepTraffic};
+ghost use Rattle.traffic.specs.Log.{logged};
+ghost use Rattle.cpu.specs.Held.{held, unnoted, toldDecoded, Whole, Leads, Beside, branchElse, otherElse};
 
 // HALT, or a halfword that only begins like it.
 fn execute_halt(k: Control, h: u16) -> Executed
@@ -66,27 +68,41 @@ fn execute_branch(k: Control, h: u16) -> Executed
 }
 
 // Any instruction but the operations on registers, by its top five bits.
-fn execute_other(regs: &mut [u16; 16], k: Control, memory: &mut [u8], h: u16) -> Executed
+fn execute_other(
+    regs: &mut [u16; 16],
+    k: Control,
+    memory: &mut [u8],
+    log: &mut [u32; 2],
+    step: u32,
+    h: u16,
+) -> Executed
     requires { ⌜ Whole (now regs) × (length (now memory) ≡ memoryBytes) ⌝ }
-    ensures { λ r. ⌜ Leads (now (regs .exit)) r (now (memory .exit)) (executeDecoded (otherElse h) (held (now (regs .entry)) k) (now (memory .entry))) ⌝ }
+    ensures { λ r. ⌜ Leads (now (regs .exit)) r (now (memory .exit)) (now (log .exit)) (toldDecoded (otherElse h) (held (now (regs .entry)) k) (now (memory .entry)) step (now (log .entry))) ⌝ }
 {
     match bits(h, 11, 5) {
         0 => execute_halt(k, h),
         4 => completed(instructions::mov_imm(regs, k, h)),
         5 => completed(instructions::cmp_imm(regs, k, h)),
-        12 => instructions::str(regs, k, memory, h),
-        13 => instructions::ldr(regs, k, memory, h),
-        14 => instructions::strb(regs, k, memory, h),
-        15 => completed(instructions::ldrb(regs, k, memory, h)),
+        12 => instructions::str(regs, k, memory, log, step, h),
+        13 => instructions::ldr(regs, k, memory, log, step, h),
+        14 => instructions::strb(regs, k, memory, log, step, h),
+        15 => instructions::ldrb(regs, k, memory, log, step, h),
         20 => completed(instructions::add_pc(regs, k, h)),
         _ => execute_branch(k, h),
     }
 }
 
 // Does what a halfword says on a machine that is held and its memory.
-fn execute(regs: &mut [u16; 16], k: Control, memory: &mut [u8], h: u16) -> Executed
+fn execute(
+    regs: &mut [u16; 16],
+    k: Control,
+    memory: &mut [u8],
+    log: &mut [u32; 2],
+    step: u32,
+    h: u16,
+) -> Executed
     requires { ⌜ Whole (now regs) × (length (now memory) ≡ memoryBytes) ⌝ }
-    ensures { λ r. ⌜ Leads (now (regs .exit)) r (now (memory .exit)) (executeDecoded (decodeOf h) (held (now (regs .entry)) k) (now (memory .entry))) ⌝ }
+    ensures { λ r. ⌜ Leads (now (regs .exit)) r (now (memory .exit)) (now (log .exit)) (toldDecoded (decodeOf h) (held (now (regs .entry)) k) (now (memory .entry)) step (now (log .entry))) ⌝ }
 {
     match h >> 6 {
         0x100 => completed(instructions::and(regs, k, h)),
@@ -106,19 +122,26 @@ fn execute(regs: &mut [u16; 16], k: Control, memory: &mut [u8], h: u16) -> Execu
         0x119 => completed(instructions::mov_high(regs, k, h)),
         0x11A => completed(instructions::mov_high(regs, k, h)),
         0x11B => completed(instructions::mov_high(regs, k, h)),
-        _ => execute_other(regs, k, memory, h),
+        _ => execute_other(regs, k, memory, log, step, h),
     }
 }
 
 // One step, with a memory of the right size. HALT's note is left to whoever has
-// the machine.
-pub fn fetch_and_execute(regs: &mut [u16; 16], k: Control, memory: &mut [u8]) -> Executed
+// the machine. A load or store that completes puts itself into the log, as the
+// step with this number.
+pub fn fetch_and_execute(
+    regs: &mut [u16; 16],
+    k: Control,
+    memory: &mut [u8],
+    log: &mut [u32; 2],
+    step: u32,
+) -> Executed
     requires { ⌜ Whole (now regs) × (length (now memory) ≡ memoryBytes) ⌝ }
-    ensures { λ r. ⌜ (stepResult (held (now (regs .exit)) (r .control)) (now (memory .exit)) (r .outcome) ≡ unnoted (fetchAndExecute (held (now (regs .entry)) k) (now (memory .entry)))) × Whole (now (regs .exit)) ⌝ }
+    ensures { λ r. ⌜ (stepResult (held (now (regs .exit)) (r .control)) (now (memory .exit)) (r .outcome) ≡ unnoted (stepOf (held (now (regs .entry)) k) (now (memory .entry)))) × (now (log .exit) ≡ logged step (stepTraffic (held (now (regs .entry)) k) (now (memory .entry))) (now (log .entry))) × Whole (now (regs .exit)) ⌝ }
 {
     if k.pc % 2 != 0 {
         return stopped(k, ODD_PC);
     }
     let h = halfword_at(memory, k.pc as usize);
-    execute(regs, k, memory, h)
+    execute(regs, k, memory, log, step, h)
 }

@@ -20,6 +20,11 @@ use alu::shift;
 use alu::shift_flags;
 use alu::sum;
 use alu::sum_flags;
+use traffic::READ_BYTE;
+use traffic::READ_HALFWORD;
+use traffic::WROTE_BYTE;
+use traffic::WROTE_HALFWORD;
+use traffic::put_access;
 use units::ByteAddress;
 use units::bits;
 use units::halfword_at;
@@ -31,8 +36,9 @@ ghost use Prim.Native.Nat.{_+_, _<_};
 ghost use lib.ListN.{getD, length, set};
 ghost use Rattle.units.specs.Address.{wrap, memoryBytes};
 ghost use Rattle.units.specs.Field.{field, highRs, highRd};
-ghost use Rattle.cpu.specs.Step.{resulting, addHighOf, addPcOf, andOf, asrOf, cmpImmOf, cmpOf, cmpHighOf, eorOf, ldrOf, ldrbOf, movImmOf, movHighOf, negOf, strOf, strbOf, tstOf};
-ghost use Rattle.cpu.specs.Held.{held, branched, Whole, Holds, Leads};
+ghost use Rattle.isa.specs.declared.instruction.Instruction.the-variants.{Str, Ldr, Strb, Ldrb};
+ghost use Rattle.cpu.specs.Step.{resulting, addHighOf, addPcOf, andOf, asrOf, cmpImmOf, cmpOf, cmpHighOf, eorOf, movImmOf, movHighOf, negOf, tstOf};
+ghost use Rattle.cpu.specs.Held.{held, branched, toldOf, Whole, Holds, Leads};
 
 // Puts the PC where ADD, CMP and MOV find it when they name R15: the address of
 // the instruction itself.
@@ -163,26 +169,42 @@ fn effective_address(regs: &[u16; 16], h: u16, distance: u16) -> u16
 }
 
 // LDR, or stop 20.
-pub(crate) fn ldr(regs: &mut [u16; 16], k: Control, memory: &[u8], h: u16) -> Executed
+pub(crate) fn ldr(
+    regs: &mut [u16; 16],
+    k: Control,
+    memory: &[u8],
+    log: &mut [u32; 2],
+    step: u32,
+    h: u16,
+) -> Executed
     requires { ⌜ Whole (now regs) × (length (now memory) ≡ memoryBytes) ⌝ }
-    ensures { λ r. ⌜ Leads (now (regs .exit)) r (now (memory .entry)) (ldrOf (field h 6 5) (field h 3 3) (field h 0 3) (held (now (regs .entry)) k) (now (memory .entry))) ⌝ }
+    ensures { λ r. ⌜ Leads (now (regs .exit)) r (now (memory .entry)) (now (log .exit)) (toldOf (Ldr (field h 6 5) (field h 3 3) (field h 0 3)) (held (now (regs .entry)) k) (now (memory .entry)) step (now (log .entry))) ⌝ }
 {
     let a = effective_address(regs, h, 4 * (bits(h, 6, 5) as u16));
     if a % 4 != 0 {
         return stopped(k, MISALIGNED);
     }
     let x = halfword_at(memory, a as usize);
+    put_access(log, step, READ_HALFWORD, a);
     completed(write_low(regs, k, bits(h, 0, 3), x))
 }
 
 // LDRB.
-pub(crate) fn ldrb(regs: &mut [u16; 16], k: Control, memory: &[u8], h: u16) -> Control
+pub(crate) fn ldrb(
+    regs: &mut [u16; 16],
+    k: Control,
+    memory: &[u8],
+    log: &mut [u32; 2],
+    step: u32,
+    h: u16,
+) -> Executed
     requires { ⌜ Whole (now regs) × (length (now memory) ≡ memoryBytes) ⌝ }
-    ensures { λ r. ⌜ Holds (now (regs .exit)) r (ldrbOf (field h 6 5) (field h 3 3) (field h 0 3) (held (now (regs .entry)) k) (now (memory .entry))) ⌝ }
+    ensures { λ r. ⌜ Leads (now (regs .exit)) r (now (memory .entry)) (now (log .exit)) (toldOf (Ldrb (field h 6 5) (field h 3 3) (field h 0 3)) (held (now (regs .entry)) k) (now (memory .entry)) step (now (log .entry))) ⌝ }
 {
     let a = effective_address(regs, h, bits(h, 6, 5) as u16);
     let x = load_byte(memory, a as usize);
-    write_low(regs, k, bits(h, 0, 3), x)
+    put_access(log, step, READ_BYTE, a);
+    completed(write_low(regs, k, bits(h, 0, 3), x))
 }
 
 // MOV(1).
@@ -223,9 +245,16 @@ pub(crate) fn neg(regs: &mut [u16; 16], k: Control, h: u16) -> Control
 }
 
 // STR, or stop 20.
-pub(crate) fn str(regs: &[u16; 16], k: Control, memory: &mut [u8], h: u16) -> Executed
+pub(crate) fn str(
+    regs: &[u16; 16],
+    k: Control,
+    memory: &mut [u8],
+    log: &mut [u32; 2],
+    step: u32,
+    h: u16,
+) -> Executed
     requires { ⌜ Whole (now regs) × (length (now memory) ≡ memoryBytes) ⌝ }
-    ensures { λ r. ⌜ Leads (now (regs .entry)) r (now (memory .exit)) (strOf (field h 6 5) (field h 3 3) (field h 0 3) (held (now (regs .entry)) k) (now (memory .entry))) ⌝ }
+    ensures { λ r. ⌜ Leads (now (regs .entry)) r (now (memory .exit)) (now (log .exit)) (toldOf (Str (field h 6 5) (field h 3 3) (field h 0 3)) (held (now (regs .entry)) k) (now (memory .entry)) step (now (log .entry))) ⌝ }
 {
     let a = effective_address(regs, h, 4 * (bits(h, 6, 5) as u16));
     if a % 4 != 0 {
@@ -233,17 +262,26 @@ pub(crate) fn str(regs: &[u16; 16], k: Control, memory: &mut [u8], h: u16) -> Ex
     }
     let x = regs[bits(h, 0, 3) as usize];
     put_halfword(memory, a as usize, x);
+    put_access(log, step, WROTE_HALFWORD, a);
     completed(advance(k))
 }
 
 // STRB.
-pub(crate) fn strb(regs: &[u16; 16], k: Control, memory: &mut [u8], h: u16) -> Executed
+pub(crate) fn strb(
+    regs: &[u16; 16],
+    k: Control,
+    memory: &mut [u8],
+    log: &mut [u32; 2],
+    step: u32,
+    h: u16,
+) -> Executed
     requires { ⌜ Whole (now regs) × (length (now memory) ≡ memoryBytes) ⌝ }
-    ensures { λ r. ⌜ Leads (now (regs .entry)) r (now (memory .exit)) (strbOf (field h 6 5) (field h 3 3) (field h 0 3) (held (now (regs .entry)) k) (now (memory .entry))) ⌝ }
+    ensures { λ r. ⌜ Leads (now (regs .entry)) r (now (memory .exit)) (now (log .exit)) (toldOf (Strb (field h 6 5) (field h 3 3) (field h 0 3)) (held (now (regs .entry)) k) (now (memory .entry)) step (now (log .entry))) ⌝ }
 {
     let a = effective_address(regs, h, bits(h, 6, 5) as u16);
     let x = regs[bits(h, 0, 3) as usize];
     store_byte(memory, a as usize, x);
+    put_access(log, step, WROTE_BYTE, a);
     completed(advance(k))
 }
 

@@ -1,7 +1,8 @@
-// Steps and runs of a machine by value, their endings as numbers, as the C face
-// gives them out.
+// Steps and runs of a machine by value, their endings and what they touched as
+// numbers, as the C face gives them out.
 mod run;
 mod step;
+mod touched;
 
 pub use run::AfterRun;
 pub use run::run_numbered;

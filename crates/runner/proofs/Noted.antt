@@ -22,7 +22,7 @@ use Rattle.runner.specs.Lent.{noteLeft, unnotedRun}
 abbrev pub renoted : ℕ → RunResult → RunResult
 renoted n r = runResult (withNote (noteLeft (r .outcome) (lowByte (r .state)) n) (r .state .machine)) (r .state .memory) (r .outcome) (r .count)
 
-abbrev noting : ℕ → State → State
+abbrev pub noting : ℕ → State → State
 noting n s = state (withNote n (s .machine)) (s .memory)
 
 -- HALT has set it already

@@ -19,7 +19,7 @@ use Rattle.runner.specs.declared.runs.RunOutcome.{RunOutcome}
 use Rattle.runner.specs.declared.runs.RunOutcome.the-variants.{Spent, Refused as RunRefused}
 use Rattle.cpu.specs.declared.outcome.Outcome.{Outcome}
 use Rattle.cpu.specs.declared.outcome.Outcome.the-variants.{Completed, Halted, Stopped, Refused}
-use Rattle.cpu.specs.Step.{State, StepResult, stepResult, fetchAndExecute, stepOf}
+use Rattle.cpu.specs.Step.{State, StepResult, stepResult, stepOf}
 use Rattle.runner.specs.Run.{RunResult, runResult, state, goOn, runFrom, runOf}
 use Rattle.alu.specs.declared.status.Status.{Status}
 use Rattle.cpu.specs.Machine.{withNote}
@@ -47,20 +47,13 @@ run-starts budget s = let z : budget - 0 ≡ budget = omega arith in rw z
 
 -- what a step on a machine that is held says of itself
 abbrev pub Steps : List ℕ → List ℕ → Control → List ℕ → Executed → List ℕ → Type 0
-Steps regs memory k regs′ e memory′ = stepResult (held regs′ (e .control)) memory′ (e .outcome) ≡ unnoted (fetchAndExecute (held regs k) memory)
+Steps regs memory k regs′ e memory′ = stepResult (held regs′ (e .control)) memory′ (e .outcome) ≡ unnoted (stepOf (held regs k) memory)
 
-module _ (regs memory regs′ memory′ : List ℕ) (k : Control) (e : Executed) (right : length memory ≡ memoryBytes) (leads : Steps regs memory k regs′ e memory′) where
-  abbrev next : StepResult
-  next = stepResult (held regs′ (e .control)) memory′ (e .outcome)
-
-  one-step : unnoted (stepOf (held regs k) memory) ≡ next
-  unfolding stepOf
-  one-step = simp (eq-eqb (length memory) memoryBytes right) (sym leads)
-
-  -- one that completes leaves note 0 as it is
-  whole-step : e .outcome ≡ Completed → stepOf (held regs k) memory ≡ next
-  whole-step completed =
-      bare-step (held regs k) memory (λ h. halted-not-completed (sym h ∙ (ap (λ (r : StepResult). r .outcome) one-step ∙ completed))) ∙ one-step
+-- one that completes leaves note 0 as it is
+pub whole-step : (regs memory regs′ memory′ : List ℕ) (k : Control) (e : Executed) → Steps regs memory k regs′ e memory′ → e .outcome ≡ Completed
+    → stepOf (held regs k) memory ≡ stepResult (held regs′ (e .control)) memory′ (e .outcome)
+whole-step regs memory regs′ memory′ k e leads completed =
+    bare-step (held regs k) memory (λ h. halted-not-completed (sym h ∙ (ap (λ (r : StepResult). r .outcome) (sym leads) ∙ completed))) ∙ sym leads
 
 turn : (left count : ℕ) (s : State) (r : StepResult) → stepOf (s .machine) (s .memory) ≡ r
     → runFrom (suc left) count s ≡ goOn (r .outcome) (r .state) count (runFrom left (count + 1) (r .state))
@@ -72,7 +65,7 @@ turn left count s r step =
 abbrev pub Last : Outcome → Type 0
 Last o = OneOf (1 ∷ 2 ∷ 3 ∷ []) (tagOf the-type o)
 
-not-last : Last Completed → ⊥
+pub not-last : Last Completed → ⊥
 not-last = ⊎-elim (λ e. omega (arith, e)) (⊎-elim (λ e. omega (arith, e)) (λ e. omega (arith, e)))
 
 -- the run ends as such a step did
@@ -112,13 +105,13 @@ module _ (budget : ℕ) (m₀ : Machine) (memory₀ : List ℕ) (right₀ : leng
         answers m o n regs memory k Spent count ends (ap unnotedRun (rw z at from-start))
 
     -- one more turn, where the step doesn't complete
-    pub run-ends : (m : Machine) (o : RunOutcome) (n : ℕ) (regs′ memory′ : List ℕ) (e : Executed) → count < budget → length memory ≡ memoryBytes
+    pub run-ends : (m : Machine) (o : RunOutcome) (n : ℕ) (regs′ memory′ : List ℕ) (e : Executed) → count < budget
         → Steps regs memory k regs′ e memory′ → Last (e .outcome) → Ends m o n regs′ (e .control) (asRun (e .outcome)) count
         → runResult m memory′ o n ≡ unnotedRun (runOf budget m₀ memory₀)
-    run-ends m o n regs′ memory′ e more right leads last ends =
+    run-ends m o n regs′ memory′ e more leads last ends =
         let t : budget - count ≡ suc (budget - (count + 1)) = omega arith in
         let now = stepOf (held regs k) memory in
-        let came = one-step regs memory regs′ memory′ k e right leads in
+        let came = sym leads in
         answers m o n regs′ memory′ (e .control) (asRun (e .outcome)) count ends
         (sym (ap (λ (r : StepResult). ran r count) came)
         ∙ (sym (last-step now count (runFrom (budget - (count + 1)) (count + 1) (now .state)) (subst⁻¹ Last (ap (λ (r : StepResult). r .outcome) came) last))
@@ -126,11 +119,11 @@ module _ (budget : ℕ) (m₀ : Machine) (memory₀ : List ℕ) (right₀ : leng
 
 -- one more turn, where it completes
 pub run-again : (budget : ℕ) (regs memory regs′ memory′ : List ℕ) (k : Control) (count : ℕ) (e : Executed) (all : RunResult)
-    → count < budget → length memory ≡ memoryBytes → Steps regs memory k regs′ e memory′ → e .outcome ≡ Completed
+    → count < budget → Steps regs memory k regs′ e memory′ → e .outcome ≡ Completed
     → runFrom (budget - count) count (state (held regs k) memory) ≡ all
     → runFrom (budget - (count + 1)) (count + 1) (state (held regs′ (e .control)) memory′) ≡ all
-run-again budget regs memory regs′ memory′ k count e all more right leads completed left =
+run-again budget regs memory regs′ memory′ k count e all more leads completed left =
     let t : budget - count ≡ suc (budget - (count + 1)) = omega arith in
     let next = stepResult (held regs′ (e .control)) memory′ (e .outcome) in
-    (rw completed at (sym (turn (budget - (count + 1)) count (state (held regs k) memory) next (whole-step regs memory regs′ memory′ k e right leads completed))))
+    (rw completed at (sym (turn (budget - (count + 1)) count (state (held regs k) memory) next (whole-step regs memory regs′ memory′ k e leads completed))))
     ∙ (rw t at left)

@@ -1,3 +1,4 @@
 pub mod Run
+pub mod Traffic
 pub mod Ends
 pub mod Lent

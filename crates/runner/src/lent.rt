@@ -14,6 +14,8 @@ use units::MEMORY_BYTES;
 ghost use mathlib.Core.Path.{_≡_};
 ghost use Rattle.cpu.specs.Held.{held, Whole};
 ghost use Rattle.runner.specs.Run.{runResult, runOf};
+ghost use Rattle.traffic.specs.Log.{emptyLog, lastLogged};
+ghost use Rattle.runner.specs.Traffic.{runTraffic};
 ghost use Rattle.runner.specs.Ends.{asRun};
 ghost use Rattle.runner.specs.Lent.{lent, unnotedRun};
 
@@ -48,10 +50,20 @@ fn ended(regs: &mut [u16; 16], k: Control, outcome: Outcome, count: u32) -> RanL
     }
 }
 
-// Steps until `budget` of them are completed or one doesn't complete.
-pub fn run_lent(regs: &mut [u16; 16], s: Status, memory: &mut [u8], budget: u32) -> RanLent
-    requires { ⌜ Whole (now regs) ⌝ }
+// Steps until `budget` of them are completed or one doesn't complete. What the
+// last of them touched is left in the log, which is empty before. The log comes
+// last, for the compiler to keep it on the stack, where only loads and stores
+// look for it.
+pub fn run_lent(
+    s: Status,
+    regs: &mut [u16; 16],
+    memory: &mut [u8],
+    budget: u32,
+    log: &mut [u32; 2],
+) -> RanLent
+    requires { ⌜ Whole (now regs) × (now log ≡ emptyLog) ⌝ }
     ensures { λ r. ⌜ runResult (lent (now (regs .exit)) (r .status)) (now (memory .exit)) (r .outcome) (r .count) ≡ unnotedRun (runOf budget (lent (now (regs .entry)) s) (now (memory .entry))) ⌝ }
+    ensures { λ r. ⌜ lastLogged (r .count) (now (log .exit)) ≡ runTraffic budget (lent (now (regs .entry)) s) (now (memory .entry)) ⌝ }
 {
     if memory.len() != MEMORY_BYTES {
         return RanLent {
@@ -63,7 +75,7 @@ pub fn run_lent(regs: &mut [u16; 16], s: Status, memory: &mut [u8], budget: u32)
     let mut k = control_of(regs[15], s);
     let mut count: u32 = 0;
     while count < budget {
-        let e = fetch_and_execute(regs, k, memory);
+        let e = fetch_and_execute(regs, k, memory, log, count);
         k = e.control;
         let outcome = e.outcome;
         match outcome {

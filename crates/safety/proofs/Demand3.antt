@@ -2,7 +2,7 @@
 use mathlib.Core.List.{List}
 use mathlib.Core.Logic.{inl, inr, ⊎-elim}
 use mathlib.Core.Path.{_≡_, refl, sym, ap, _∙_, subst, subst⁻¹}
-use Prim.Native.Nat.{ℕ, _+_, _*_, _/_, _%_, _≤_, _<_}
+use Prim.Native.Nat.{ℕ, zero, suc, _+_, _*_, _/_, _%_, _≤_, _<_}
 use native.Mathlib.Omega.{arith}
 use borrow.Author.Tests.{eq-eqb}
 use lib.ListN.{length, getD}
@@ -21,10 +21,11 @@ use Rattle.runner.specs.declared.runs.RunOutcome.{RunOutcome}
 use Rattle.runner.specs.declared.runs.RunOutcome.the-variants as run
 use Rattle.cpu.specs.Step.{State, fetched}
 use Rattle.runner.specs.Run.{RunResult, state, outcomeAt, nextState, stateAfter, runFrom, runOf}
+use Rattle.runner.specs.Traffic.{lastTraffic, runTraffic}
 use Rattle.loader.specs.Load.{codeByte}
-use Rattle.safety.specs.Safety.{Start, HoldsCode, SafeState, EndsByHalt, SafeRun, Demand3, LoadHolds}
+use Rattle.safety.specs.Safety.{Start, HoldsCode, SafeTraffic, SafeState, SameResult, EndsByHalt, SafeRun, Demand3, LoadHolds}
 use Rattle.safety.proofs.Fitness.{FitCode, fit-code}
-use Rattle.safety.proofs.Invariant.{Inv, HoldsHalfwords, arrive, fetched-is, safe-access, next}
+use Rattle.safety.proofs.Invariant.{Inv, HoldsHalfwords, arrive, fetched-is, safe-traffic, next}
 use Rattle.safety.proofs.Registers.{unknown-holds}
 use Rattle.cpu_laws.specs.Notes.{haltedState}
 use Rattle.cpu_laws.specs.Course.{EndsAs, finalState}
@@ -33,7 +34,8 @@ use Rattle.cpu.proofs.Endings.{halted-not-completed}
 use Rattle.cpu_laws.proofs.Notes.{note-set}
 use Rattle.cpu_laws.proofs.Course.{run-course, run-keeps}
 use Rattle.safety.proofs.Loads.{was-fit, after-load, loaded-holds}
-use Rattle.safety.proofs.Twins.{same-runs}
+use Rattle.safety.proofs.Accesses.{quiet-safe}
+use Rattle.safety.proofs.Twins.{Twin, same-last, same-runs}
 
 -- byte by byte is halfword by halfword
 holds-halfwords : (file : List ℕ) (layout : Layout) (memory : List ℕ) → layout .«code_bytes» ≡ 2 * length (codeOf file) → HoldsCode file layout memory → HoldsHalfwords (codeOf file) memory
@@ -78,8 +80,8 @@ module _ (file : List ℕ) (layout : Layout) (fit : FitCode (codeOf file) layout
         fetch = omega (arith, inv .here, inv .inside, fit .size);
         instruction = fit .passed (inv .index) (inv .inside) .instruction;
         defined = fetched-is (codeOf file) layout memory fit (there memory h) s inv;
-        access = safe-access (codeOf file) layout memory fit (there memory h) s inv;
         goes-on = ⊎-elim (λ x. inr (x .0)) (λ x. inl (x .0)) (next (codeOf file) layout memory fit (there memory h) s inv);
+        traffic = safe-traffic (codeOf file) layout memory fit (there memory h) s inv;
         size = inv .sized .bytes .count;
         kept = inv .kept;
       }
@@ -106,16 +108,26 @@ module _ (file : List ℕ) (layout : Layout) (fit : FitCode (codeOf file) layout
       (λ x. absurd (subst (λ (a : Outcome). EndsAs a o) (x .0) e))
       (next (codeOf file) layout memory fit (there memory h) s inv)
 
+  -- every state of a run has it
+  each : (memory : List ℕ) → HoldsCode file layout memory → (m : Machine) → Start m → (budget k : ℕ) → k ≤ runOf budget m memory .count
+      → Inv (codeOf file) layout memory (stateAfter k (state m memory))
+  each memory h m s budget = run-keeps (Inv (codeOf file) layout memory) (keeps memory h) budget m memory (h .size) (begin memory h m s)
+
+  -- so what the last of its steps touched is safe
+  last-safe : (memory : List ℕ) → HoldsCode file layout memory → (s : State) (n : ℕ) → ((k : ℕ) → k ≤ n → Inv (codeOf file) layout memory (stateAfter k s))
+      → SafeTraffic layout (lastTraffic n s)
+  last-safe memory h s zero inv = quiet-safe layout
+  last-safe memory h s (suc n) inv = safe-traffic (codeOf file) layout memory fit (there memory h) (stateAfter n s) (inv n (omega arith))
+
   safe-run : (memory : List ℕ) → HoldsCode file layout memory → (m : Machine) → Start m → (budget : ℕ) → SafeRun file layout m memory budget
+  unfolding runTraffic
   safe-run memory h m s budget =
       let start : State = state m memory in
       let result : RunResult = runOf budget m memory in
       let course = run-course budget m memory (h .size) in
-      let each : (k : ℕ) → k ≤ result .count → Inv (codeOf file) layout memory (stateAfter k start) =
-      run-keeps (Inv (codeOf file) layout memory) (keeps memory h) budget m memory (h .size) (begin memory h m s)
-      in
+      let kept = each memory h m s budget in
       let halts : (result .count < budget) × EndsAs (outcomeAt (stateAfter (result .count) start)) (result .outcome) → EndsByHalt budget result =
-      λ x. let end = ending memory h (stateAfter (result .count) start) (each (result .count) (omega arith)) (result .outcome) (x .1) in
+      λ x. let end = ending memory h (stateAfter (result .count) start) (kept (result .count) (omega arith)) (result .outcome) (x .1) in
       record {
         outcome = end .0;
         left = x .0;
@@ -123,13 +135,22 @@ module _ (file : List ℕ) (layout : Layout) (fit : FitCode (codeOf file) layout
       }
       in
       record {
-        states = λ k hk. safe-state memory h (stateAfter k start) (each k hk);
+        states = λ k hk. safe-state memory h (stateAfter k start) (kept k hk);
         completed = course .completed;
         last = course .last;
         ends = ⊎-elim (λ x. inr (record { outcome = x .0; all = x .1 })) (λ x. inl (halts x)) (course .end);
-        alike = λ other g w. rw (run-is budget m memory (h .size), run-is budget m other (g .size))
-            (same-runs (codeOf file) layout fit memory other (there memory h) (there other g) budget 0 _ _ (begin memory h m s) (begin other g m s)
-            record { machine = refl; window = w });
+        traffic = last-safe memory h start (result .count) kept;
+        alike = λ other g w.
+            let twin : Twin layout start (state m other) = record { machine = refl; window = w } in
+            let same : SameResult layout result (runOf budget m other) =
+            rw (run-is budget m memory (h .size), run-is budget m other (g .size))
+            (same-runs (codeOf file) layout fit memory other (there memory h) (there other g) budget 0 _ _ (begin memory h m s) (begin other g m s) twin)
+            in (
+              same,
+              same-last (codeOf file) layout fit memory other (there memory h) (there other g) start (state m other) twin (result .count)
+                  (λ k l. kept k (omega arith)) (λ k l. each other g m s budget k (omega (arith, same .count)))
+                  ∙ ap (λ (n : ℕ). lastTraffic n (state m other)) (same .count),
+            );
       }
 
 pub demand-3 : Demand3

@@ -20,25 +20,28 @@ use Rattle.image.specs.declared.checker.Layout.{Layout}
 use Rattle.targets.specs.Jumps.{jumpOf}
 use Rattle.targets.specs.Targets.{addressOf, decodedAt, goesTo, targeted}
 use Rattle.targets.specs.declared.branch.Target.the-variants.{To}
-use Rattle.checks.specs.Access.{accessOf}
+use Rattle.isa.specs.Access.{accessOf}
 use Rattle.checks.specs.State.{transferOf, afterOf}
 use Rattle.verifier.specs.Verify.{entering, valuesAt}
 use Rattle.cpu.specs.declared.machine.Machine.{Machine}
+use Rattle.cpu.specs.declared.outcome.Outcome.{Outcome}
 use Rattle.cpu.specs.declared.outcome.Outcome.the-variants.{Completed, Halted}
 use Rattle.cpu.specs.Machine.{pc}
 use Rattle.cpu.specs.Step.{State, StepResult, executeOf, fetched, stepOf}
+use Rattle.cpu.specs.Traffic.{trafficOf, whenCompleted, stepTraffic}
 use Rattle.runner.specs.Run.{outcomeAt, nextState}
+use Rattle.runner.specs.Traffic.{trafficAt}
 use Rattle.cpu_laws.specs.Sizes.{Registers, Sized}
 use Rattle.cpu.proofs.Endings.{halted-not-completed}
 use Rattle.cpu_laws.proofs.Steps.{step-decoded}
 use Rattle.cpu_laws.proofs.Sizes.{step-sized}
-use Rattle.safety.specs.Safety.{InWindow, SafeAccess}
+use Rattle.safety.specs.Safety.{InWindow, SafeTraffic}
 use Rattle.safety.proofs.Registers.{HoldsBelow, Moved, standing-holds}
 use Rattle.isa_laws.proofs.Claims.{halt-notes}
 use Rattle.isa_laws.proofs.Narrow.{Narrow, decoded-narrow}
 use Rattle.safety.proofs.Steps.{IsHalt, Completes, step-case}
-use Rattle.safety.proofs.Accesses.{access-safe, data-in-window}
-use Rattle.safety.proofs.Touched.{execute-kept}
+use Rattle.safety.proofs.Accesses.{SafeAccess, access-safe, traffic-safe, data-in-window}
+use Rattle.cpu_laws.proofs.Touched.{step-keeps}
 use Rattle.verifier.proofs.Walk.{length-entering, length-values}
 use Rattle.safety.proofs.Fitness.{FitCode}
 
@@ -102,9 +105,17 @@ module _ (code : List ℕ) (layout : Layout) (start : List ℕ) (fit : FitCode c
     unfolding fetched
     narrow = decoded-narrow (halfwordAt (s .memory) (pc m)) ins (sym fetched-is)
 
-    pub safe-access : SafeAccess layout m (accessOf ins)
+    safe-access : SafeAccess layout m (accessOf ins)
     safe-access =
         access-safe (valuesAt code i) m layout ins narrow (inv .holds) (fit .in-memory) (fit .passed (inv .index) (inv .inside) .passes10) (fit .passed (inv .index) (inv .inside) .passes11)
+
+    -- however the step ends
+    pub safe-data : (o : Outcome) → SafeTraffic layout (whenCompleted o (trafficOf ins m))
+    safe-data o = traffic-safe layout m ins safe-access o
+
+    pub safe-traffic : SafeTraffic layout (trafficAt s)
+    unfolding stepTraffic
+    safe-traffic = rw fetched-is (safe-data (stepOf m (s .memory) .outcome))
 
     here-is : addressOf i ≡ record { 0 = pc m }
     here-is = ap (λ (a : ℕ). record { 0 = a }) (address-is i (inv .inside) ∙ sym (inv .here))
@@ -134,7 +145,8 @@ module _ (code : List ℕ) (layout : Layout) (start : List ℕ) (fit : FitCode c
           inside = hj;
           here = e;
           holds = arrive j regs′ hj e (sized .registers) holds;
-          kept = λ a h. execute-kept m (s .memory) ins .others a (λ d. h (data-in-window layout m (accessOf ins) safe-access a d)) ∙ inv .kept a h;
+          kept = λ a h. subst (λ (r : StepResult). byteAt (r .state .memory) a ≡ byteAt (s .memory) a) step-is
+              (step-keeps m (s .memory) .others a (λ w. h (data-in-window layout (trafficAt s) safe-traffic a (w .touches)))) ∙ inv .kept a h;
         }
 
     -- what falls into the next instruction is what this one leaves

@@ -1,8 +1,6 @@
-pub mod Lists
 pub mod Registers
 pub mod Steps
 pub mod Accesses
-pub mod Touched
 pub mod Fitness
 pub mod Invariant
 pub mod Twins

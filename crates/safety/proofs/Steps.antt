@@ -19,7 +19,7 @@ use Rattle.domain_laws.specs.Holds.{Holds}
 use Rattle.domain_laws.proofs.Sound.{unknown-sound, exactly-sound, byte-sound, neg-sound, asr-sound, add-sound, and-sound, eor-sound}
 use Rattle.targets.specs.Jumps.{jumpOf}
 use Rattle.targets.specs.declared.branch.Target.the-variants.{To}
-use Rattle.checks.specs.Access.{accessOf}
+use Rattle.isa.specs.Access.{accessOf}
 use Rattle.checks.specs.Questions.{check12}
 use Rattle.checks.specs.State.{State, value, transferOf}
 use Rattle.cpu.specs.declared.machine.Machine.{Machine}
@@ -29,7 +29,7 @@ use Rattle.cpu.specs.Machine.{reg, pc, flags, updated, advanced, written}
 use Rattle.alu.specs.Alu.{negative, shiftOf, conditionOf}
 use Rattle.cpu.specs.Step.{StepResult, completed, effectiveAddress, executeOf, addHighOf, addPcOf, andOf, asrOf, branchOf, cmpImmOf, cmpOf, cmpHighOf, eorOf, ldrOf, ldrbOf, movImmOf, movHighOf, negOf, strOf, strbOf, tstOf}
 use Rattle.cpu_laws.specs.Sizes.{Registers, Bytes}
-use Rattle.safety.specs.Touched.{dataAddress}
+use Rattle.cpu.specs.Traffic.{dataAddress}
 use Rattle.cpu_laws.proofs.Sizes.{shift-small, halfword-small}
 use Rattle.safety.proofs.Registers.{HoldsBelow, Moved, jumped, on, wrote}
 use Rattle.isa_laws.proofs.Narrow.{Narrow}

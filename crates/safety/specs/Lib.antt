@@ -1,3 +1,2 @@
-pub mod Touched
 pub mod Safety
 pub mod Instance

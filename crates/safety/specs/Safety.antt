@@ -10,19 +10,20 @@ use Rattle.isa.specs.declared.decoder.Decoded.the-variants.{Defined}
 use Rattle.isa.specs.declared.instruction.Instruction.{Instruction}
 use Rattle.isa.specs.declared.instruction.Instruction.the-variants.{Halt}
 use Rattle.image.specs.declared.checker.Layout.{Layout}
-use Rattle.checks.specs.Access.{Access, accessOf}
 use Rattle.verifier.specs.Verify.{verifyOf}
 use Rattle.verifier.specs.declared.verifier.Verdict.the-variants.{Fit}
 use Rattle.cpu.specs.declared.machine.Machine.{Machine}
 use Rattle.cpu.specs.declared.outcome.Outcome.the-variants as step
 use Rattle.runner.specs.declared.runs.RunOutcome.the-variants as run
 use Rattle.cpu.specs.Machine.{reg, pc}
+use Rattle.traffic.specs.declared.data.Traffic.{Traffic}
 use Rattle.cpu.specs.Step.{State, fetched}
+use Rattle.traffic.specs.Data.{addressTouched, bytesTouched}
 use Rattle.runner.specs.Run.{RunResult, state, outcomeAt, stateAfter, runOf}
+use Rattle.runner.specs.Traffic.{trafficAt, runTraffic}
 use Rattle.cpu_laws.specs.Course.{finalState}
 use Rattle.loader.specs.Load.{codeByte, loadOf, memoryAfterLoad}
 use Rattle.loader.specs.declared.loader.Loaded.the-variants.{Done}
-use Rattle.safety.specs.Touched.{dataAddress}
 
 -- a start: any registers of 16 bits, any flags and any note, the PC at 0
 pub record Start (m : Machine) : Type 0 where
@@ -40,20 +41,20 @@ pub record HoldsCode (file : List ℕ) (layout : Layout) (memory : List ℕ) : T
 abbrev pub InWindow : Layout → ℕ → ℕ → Type 0
 InWindow layout a size = (layout .«window_start» ≤ a) × (a + size ≤ layout .«window_start» + layout .«window_length»)
 
--- the data of a load or store lie in the window, at a multiple of 4 where they are a halfword
-pub record SafeAccess (layout : Layout) (m : Machine) (access : Access) : Type 0 where
-  pub inside : 0 < access .size → InWindow layout (dataAddress m access) (access .size)
-  pub aligned : access .size ≡ 2 → dataAddress m access % 4 ≡ 0
+-- the data that are touched, if any, lie in the window, at a multiple of 4 where they are a halfword
+pub record SafeTraffic (layout : Layout) (t : Traffic) : Type 0 where
+  pub inside : 0 < bytesTouched t → InWindow layout (addressTouched t) (bytesTouched t)
+  pub aligned : bytesTouched t ≡ 2 → addressTouched t % 4 ≡ 0
 
--- a state of the run: its instruction is fetched from the code and defined, its data are in the window, no stop comes next, memory has all its
--- bytes, and each outside the window is as it was at the start
+-- a state of the run: its instruction is fetched from the code and defined, no stop comes next, so that a load or store there tells its data, and those are
+-- in the window; memory has all its bytes, and each outside the window is as it was at the start
 pub record SafeState (layout : Layout) (memory : List ℕ) (s : State) : Type 0 where
   pub even : pc (s .machine) % 2 ≡ 0
   pub fetch : pc (s .machine) + 2 ≤ layout .«code_bytes»
   pub instruction : Instruction
   pub defined : fetched (s .machine) (s .memory) ≡ Defined instruction
-  pub access : SafeAccess layout (s .machine) (accessOf instruction)
   pub goes-on : (outcomeAt s ≡ step.Completed) ⊎ (outcomeAt s ≡ step.Halted)
+  pub traffic : SafeTraffic layout (trafficAt s)
   pub size : length (s .memory) ≡ memoryBytes
   pub kept : (a : ℕ) → (InWindow layout a 1 → ⊥) → byteAt (s .memory) a ≡ byteAt memory a
 
@@ -80,14 +81,16 @@ pub record EndsSpent (budget : ℕ) (r : RunResult) : Type 0 where
   pub all : r .count ≡ budget
 
 -- a whole run: each state is safe, from the start to the last, and each but the last completes its step; the run leaves the last as it is, but for the
--- note if it ends by HALT; it ends by HALT or spent; and nothing outside code and window has a part in it
+-- note if it ends by HALT; it ends by HALT or spent; the data that it tells of are in the window; and nothing outside code and window has a part in it,
+-- nor in what it tells
 pub record SafeRun (file : List ℕ) (layout : Layout) (m : Machine) (memory : List ℕ) (budget : ℕ) : Type 0 where
   pub states : (k : ℕ) → k ≤ runOf budget m memory .count → SafeState layout memory (stateAfter k (state m memory))
   pub completed : (k : ℕ) → k < runOf budget m memory .count → outcomeAt (stateAfter k (state m memory)) ≡ step.Completed
   pub last : runOf budget m memory .state ≡ finalState (runOf budget m memory .outcome) (stateAfter (runOf budget m memory .count) (state m memory))
   pub ends : EndsByHalt budget (runOf budget m memory) ⊎ EndsSpent budget (runOf budget m memory)
+  pub traffic : SafeTraffic layout (runTraffic budget m memory)
   pub alike : (other : List ℕ) → HoldsCode file layout other → SameWindow layout memory other
-      → SameResult layout (runOf budget m memory) (runOf budget m other)
+      → SameResult layout (runOf budget m memory) (runOf budget m other) × (runTraffic budget m memory ≡ runTraffic budget m other)
 
 -- demand 3, over every file, memory, start and budget
 abbrev pub Demand3 : Type 0

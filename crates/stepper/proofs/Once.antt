@@ -12,8 +12,11 @@ use Rattle.cpu.specs.declared.outcome.Outcome.{Outcome}
 use Rattle.cpu.specs.declared.outcome.Outcome.the-variants.{Completed, Halted, Stopped, Refused}
 use Rattle.runner.specs.declared.runs.RunOutcome.{RunOutcome}
 use Rattle.runner.specs.declared.runs.RunOutcome.the-variants.{Spent}
-use Rattle.cpu.specs.Step.{State, StepResult, stepResult, stepOf}
-use Rattle.runner.specs.Run.{RunResult, runResult, goOn, runFrom, runOf}
+use Rattle.traffic.specs.declared.data.Traffic.{Traffic}
+use Rattle.cpu.specs.Step.{State, StepResult, stepResult, fetched, stepOf}
+use Rattle.cpu.specs.Traffic.{decodedTraffic, whenCompleted, stepTraffic}
+use Rattle.runner.specs.Run.{RunResult, runResult, state, stateAfter, goOn, runFrom, runOf}
+use Rattle.runner.specs.Traffic.{lastTraffic, runTraffic}
 use Rattle.stepper.specs.Ends.{asStep}
 
 -- a run of one step, as a step
@@ -41,3 +44,26 @@ one-is-step m memory = go (eqb (length memory) memoryBytes) refl
 pub stepped : (m m′ : Machine) (memory memory′ : List ℕ) (outcome : RunOutcome) (count : ℕ)
     → runResult m′ memory′ outcome count ≡ runOf 1 m memory → stepResult m′ memory′ (asStep outcome) ≡ stepOf m memory
 stepped m m′ memory memory′ outcome count ran = ap asStepResult ran ∙ one-is-step m memory
+
+-- and tells what the step tells: no data where it didn't complete
+one-told : (m : Machine) (memory : List ℕ) → runTraffic 1 m memory ≡ stepTraffic m memory
+unfolding runTraffic runOf runFrom stateAfter stepTraffic
+one-told m memory = go (eqb (length memory) memoryBytes) refl
+  where
+    t : Traffic
+    t = decodedTraffic (fetched m memory) m
+
+    told : (o : Outcome) → o ≡ stepOf m memory .outcome
+        → lastTraffic (goOn o (stepOf m memory .state) 0 (record { state = stepOf m memory .state; outcome = Spent; count = 1 }) .count) (state m memory)
+        ≡ whenCompleted (stepOf m memory .outcome) t
+    told Completed e = refl
+    told Halted e = ap (λ (o : Outcome). whenCompleted o t) e
+    told (Stopped number) e = ap (λ (o : Outcome). whenCompleted o t) e
+    told (Refused r) e = ap (λ (o : Outcome). whenCompleted o t) e
+
+    go : (b : Bool) → eqb (length memory) memoryBytes ≡ b → lastTraffic (runOf 1 m memory .count) (state m memory) ≡ whenCompleted (stepOf m memory .outcome) t
+    go true e = simp e (told (stepOf m memory .outcome) refl)
+    go false e = simp e (ap (λ (r : StepResult). whenCompleted (r .outcome) t) (wrong m memory e))
+
+pub step-told : (m : Machine) (memory : List ℕ) (t : Traffic) → t ≡ runTraffic 1 m memory → t ≡ stepTraffic m memory
+step-told m memory t ran = ran ∙ one-told m memory

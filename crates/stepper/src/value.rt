@@ -5,14 +5,18 @@ use cpu::Outcome;
 use runner::RunOutcome;
 use runner::note_left;
 use runner::run_lent;
+use traffic::Traffic;
+use traffic::last_traffic;
 ghost use mathlib.Core.Path.{_≡_};
 ghost use Rattle.cpu.specs.Step.{stepResult, stepOf};
+ghost use Rattle.cpu.specs.Traffic.{stepTraffic};
 ghost use Rattle.stepper.specs.Ends.{asStep};
 
-// The machine after a step, and how the step ended.
+// The machine after a step, how the step ended, and what it touched.
 pub struct Stepped {
     pub machine: Machine,
     pub outcome: Outcome,
+    pub traffic: Traffic,
 }
 
 // How a run of one step ended, as a step's end.
@@ -32,6 +36,7 @@ fn step_outcome(outcome: RunOutcome) -> Outcome
 // is copied once more, which takes a step a fifth longer.
 pub fn step_value(m: Machine, memory: &mut [u8]) -> Stepped
     ensures { λ r. ⌜ stepResult (r .machine) (now (memory .exit)) (r .outcome) ≡ stepOf m (now (memory .entry)) ⌝ }
+    ensures { λ r. ⌜ r .traffic ≡ stepTraffic m (now (memory .entry)) ⌝ }
 {
     let mut regs = m.regs;
     let before = Status {
@@ -40,7 +45,8 @@ pub fn step_value(m: Machine, memory: &mut [u8]) -> Stepped
         c: m.c,
         v: m.v,
     };
-    let e = run_lent(&mut regs, before, memory, 1);
+    let mut log = [0u32; 2];
+    let e = run_lent(before, &mut regs, memory, 1, &mut log);
     let after = e.status;
     let outcome = e.outcome;
     let note = note_left(outcome, memory, regs[15], m.note);
@@ -55,5 +61,6 @@ pub fn step_value(m: Machine, memory: &mut [u8]) -> Stepped
     Stepped {
         machine,
         outcome: step_outcome(outcome),
+        traffic: last_traffic(&log, e.count),
     }
 }

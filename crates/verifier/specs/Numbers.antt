@@ -6,7 +6,7 @@ use Rattle.units.specs.declared.address.ByteAddress.{ByteAddress}
 use Rattle.isa.specs.declared.decoder.Decoded.{Decoded}
 use Rattle.isa.specs.declared.decoder.Decoded.the-variants.{Defined, Undefined}
 use Rattle.image.specs.declared.checker.Layout.{Layout}
-use Rattle.checks.specs.Access.{accessOf}
+use Rattle.isa.specs.Access.{accessOf}
 use Rattle.checks.specs.State.{State, value}
 use Rattle.checks.specs.Questions.{check10, check11, check12, check13}
 

@@ -11,7 +11,7 @@ use Rattle.isa.specs.declared.instruction.Instruction.{Instruction}
 use Rattle.isa.specs.declared.instruction.Instruction.the-variants.{Branch}
 use Rattle.image.specs.declared.checker.Layout.{Layout}
 use Rattle.targets.specs.Targets.{addressOf, decodedAt}
-use Rattle.checks.specs.Access.{accessOf}
+use Rattle.isa.specs.Access.{accessOf}
 use Rattle.checks.specs.State.{value}
 use Rattle.checks.specs.Questions.{check10, check11, check12, check13, check14}
 use Rattle.verifier.specs.Verify.{valuesAt}

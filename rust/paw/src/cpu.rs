@@ -4,7 +4,7 @@ use core::error::Error;
 use core::fmt;
 use core::mem::{align_of, offset_of, size_of};
 
-use crate::{Refusal, ffi};
+use crate::{Refusal, Traffic, ffi};
 
 /// Bytes in the address space.
 pub const MEMORY_BYTES: usize = 65_536;
@@ -104,8 +104,8 @@ impl Error for Stop {}
 #[must_use = "a step may have halted or stopped"]
 #[derive(Clone, Copy, Debug, PartialEq, Eq, Hash)]
 pub enum StepOutcome {
-    /// One instruction was executed.
-    Completed,
+    /// One instruction was executed, and this is the data that it touched.
+    Completed(Traffic),
     /// The program counter is at HALT. Nothing changed but the machine's note, which is HALT's.
     Halted,
     /// The next instruction cannot be executed; nothing changed.
@@ -115,7 +115,8 @@ pub enum StepOutcome {
 impl fmt::Display for StepOutcome {
     fn fmt(&self, f: &mut fmt::Formatter<'_>) -> fmt::Result {
         match self {
-            StepOutcome::Completed => f.write_str("completed"),
+            StepOutcome::Completed(Traffic::NoData) => f.write_str("completed"),
+            StepOutcome::Completed(traffic) => write!(f, "completed, {traffic}"),
             StepOutcome::Halted => f.write_str("halted"),
             StepOutcome::Stopped(stop) => stop.fmt(f),
         }
@@ -152,6 +153,15 @@ pub struct Run {
     pub outcome: RunOutcome,
     /// How many steps were completed.
     pub steps: u32,
+    /// What the last completed step touched; no data if none was completed.
+    pub traffic: Traffic,
+}
+
+/// Takes apart what a step answers, and a run in its low half: the number that says how it ended,
+/// and the traffic of the last completed step.
+fn parts_of(answer: u32) -> (u8, Traffic) {
+    let [number, kind, low, high] = answer.to_le_bytes();
+    (number, Traffic::from_numbers(kind, u16::from_le_bytes([low, high])))
 }
 
 /// What an answer's number says, apart from 0, which a step and a run read differently.
@@ -162,7 +172,7 @@ enum Ending {
 }
 
 impl Ending {
-    fn from_number(number: u32) -> Self {
+    fn from_number(number: u8) -> Self {
         match number {
             18 => Ending::Stopped(Stop::OddPc),
             19 => Ending::Stopped(Stop::Undefined),
@@ -177,28 +187,35 @@ impl Ending {
 /// Executes the instruction at the program counter, changing this very machine and memory. Check 1
 /// refuses a memory that does not have [`MEMORY_BYTES`].
 ///
-/// A step that meets HALT changes the machine's note, and nothing else.
+/// A completed step tells which data it touched. A step that meets HALT changes the machine's note,
+/// and nothing else.
 ///
 /// ```
-/// use paw::{Machine, StepOutcome};
+/// use paw::{Machine, StepOutcome, Traffic};
 ///
 /// let mut memory = vec![0; paw::MEMORY_BYTES];
 /// memory[..2].copy_from_slice(&0x2307_u16.to_le_bytes()); // MOV R3, #7
-/// memory[2..4].copy_from_slice(&0x000C_u16.to_le_bytes()); // HALT #12
+/// memory[2..4].copy_from_slice(&0x705B_u16.to_le_bytes()); // STRB R3, [R3, #1]
+/// memory[4..6].copy_from_slice(&0x000C_u16.to_le_bytes()); // HALT #12
 /// let mut machine = Machine::default();
-/// assert_eq!(paw::step(&mut machine, &mut memory), Ok(StepOutcome::Completed));
+/// let moved = StepOutcome::Completed(Traffic::NoData);
+/// assert_eq!(paw::step(&mut machine, &mut memory), Ok(moved));
 /// assert_eq!((machine.regs[3], machine.regs[paw::PC]), (7, 2));
+/// let stored = StepOutcome::Completed(Traffic::WroteByte(8));
+/// assert_eq!(paw::step(&mut machine, &mut memory), Ok(stored));
+/// assert_eq!((memory[8], machine.regs[paw::PC]), (7, 4));
 /// assert_eq!(paw::step(&mut machine, &mut memory), Ok(StepOutcome::Halted));
-/// assert_eq!((machine.note, machine.regs[paw::PC]), (12, 2));
+/// assert_eq!((machine.note, machine.regs[paw::PC]), (12, 4));
 /// ```
 pub fn step(machine: &mut Machine, memory: &mut [u8]) -> Result<StepOutcome, Refusal> {
-    match ffi::step(machine, memory) {
-        0 => Ok(StepOutcome::Completed),
-        number => match Ending::from_number(number) {
+    match parts_of(ffi::step(machine, memory)) {
+        (0, traffic) => Ok(StepOutcome::Completed(traffic)),
+        (number, Traffic::NoData) => match Ending::from_number(number) {
             Ending::Halted => Ok(StepOutcome::Halted),
             Ending::Stopped(stop) => Ok(StepOutcome::Stopped(stop)),
             Ending::Refused(refusal) => Err(refusal),
         },
+        (number, traffic) => panic!("libpaw.a answers a step with {number} and {traffic}"),
     }
 }
 
@@ -209,30 +226,40 @@ pub fn step(machine: &mut Machine, memory: &mut [u8]) -> Result<StepOutcome, Ref
 /// next one would do: the program may not have come to its end. One that is [`RunOutcome::Halted`]
 /// has left its HALT's note in the machine.
 ///
+/// However it ended, it tells the data that the last of its completed steps touched. The HALT or
+/// stop that ended it is no completed step, and no step of an earlier run counts.
+///
 /// ```
-/// use paw::{Machine, Run, RunOutcome};
+/// use paw::{Machine, Run, RunOutcome, Traffic};
 ///
 /// let mut memory = vec![0; paw::MEMORY_BYTES];
-/// memory[..2].copy_from_slice(&0x2307_u16.to_le_bytes()); // MOV R3, #7
+/// memory[..2].copy_from_slice(&0x6903_u16.to_le_bytes()); // LDR R3, [R0, #16]
 /// memory[2..4].copy_from_slice(&0x000C_u16.to_le_bytes()); // HALT #12
 /// let mut machine = Machine::default();
-/// let spent = Run { outcome: RunOutcome::Spent, steps: 1 };
+/// let traffic = Traffic::ReadHalfword(16);
+/// let spent = Run { outcome: RunOutcome::Spent, steps: 1, traffic };
 /// assert_eq!(paw::run(&mut machine, &mut memory, 1), Ok(spent));
 /// assert_eq!(machine.note, 0); // HALT is next, but was not met
-/// let halted = Run { outcome: RunOutcome::Halted, steps: 0 };
+/// let halted = Run { outcome: RunOutcome::Halted, steps: 0, traffic: Traffic::NoData };
 /// assert_eq!(paw::run(&mut machine, &mut memory, 1), Ok(halted));
 /// assert_eq!(machine.note, 12);
+/// let both = Run { outcome: RunOutcome::Halted, steps: 1, traffic };
+/// assert_eq!(paw::run(&mut Machine::default(), &mut memory, 2), Ok(both));
 /// ```
 pub fn run(machine: &mut Machine, memory: &mut [u8], budget: u32) -> Result<Run, Refusal> {
     let answer = ffi::run(machine, memory, budget);
     let steps = (answer >> 32) as u32;
-    let outcome = match answer as u32 {
+    let (number, traffic) = parts_of(answer as u32);
+    if steps == 0 && traffic != Traffic::NoData {
+        panic!("libpaw.a answers a run of no steps with {traffic}");
+    }
+    let outcome = match number {
         0 => RunOutcome::Spent,
-        number => match Ending::from_number(number) {
+        _ => match Ending::from_number(number) {
             Ending::Halted => RunOutcome::Halted,
             Ending::Stopped(stop) => RunOutcome::Stopped(stop),
             Ending::Refused(refusal) => return Err(refusal),
         },
     };
-    Ok(Run { outcome, steps })
+    Ok(Run { outcome, steps, traffic })
 }

@@ -12,10 +12,11 @@
 //! A program travels as an image file: [`pack`] makes one, [`check`] reads what it says of itself,
 //! [`verify`] decides whether it can be run without harm, [`load`] puts it into memory if so, and
 //! [`run`] runs it. A program that ends by HALT may say why in a byte, which [`Machine::note`] then
-//! holds.
+//! holds. Each completed step tells as [`Traffic`] which data it touched, and a run what its last
+//! one told.
 //!
 //! ```
-//! use paw::{Condition, Instruction, Machine, RunOutcome};
+//! use paw::{Condition, Instruction, Machine, RunOutcome, Traffic};
 //!
 //! // Counts R0 down from 3.
 //! let program = [
@@ -42,6 +43,7 @@
 //!     RunOutcome::Spent => panic!("a thousand steps are not enough"),
 //!     RunOutcome::Stopped(stop) => panic!("{stop}"), // never, after a load
 //! }
+//! assert_eq!(run.traffic, Traffic::NoData); // of the last step, a branch
 //! # Ok::<(), paw::Refusal>(())
 //! ```
 
@@ -56,6 +58,7 @@ mod image;
 mod instruction;
 mod loader;
 mod refusal;
+mod traffic;
 mod verifier;
 mod version;
 
@@ -69,5 +72,6 @@ pub use image::{
 pub use instruction::{Instruction, decode, encode};
 pub use loader::load;
 pub use refusal::{Check, Place, Refusal};
+pub use traffic::Traffic;
 pub use verifier::verify;
 pub use version::{VERSION, Version, version};

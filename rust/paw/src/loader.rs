@@ -6,7 +6,7 @@ use crate::{Layout, Refusal, ffi};
 /// byte on and zeros in the window, and every other byte stays; a refusal changes no byte.
 ///
 /// ```
-/// use paw::{Machine, Run, RunOutcome};
+/// use paw::{Machine, Run, RunOutcome, Traffic};
 ///
 /// // Masks R0, adds 256 and stores R1 there.
 /// let code = [0x21FC, 0x4008, 0x2280, 0x4412, 0x4410, 0x6001, 0x0000];
@@ -15,7 +15,8 @@ use crate::{Layout, Refusal, ffi};
 /// let mut memory = vec![0; paw::MEMORY_BYTES];
 /// let layout = paw::load(&file, &mut memory)?;
 /// let ended = paw::run(&mut Machine::default(), &mut memory, 1_000)?;
-/// assert_eq!(ended, Run { outcome: RunOutcome::Halted, steps: 6 });
+/// let traffic = Traffic::WroteHalfword(256);
+/// assert_eq!(ended, Run { outcome: RunOutcome::Halted, steps: 6, traffic });
 /// assert_eq!(memory[layout.window()][0], 0xFC);
 /// # Ok::<(), paw::Refusal>(())
 /// ```

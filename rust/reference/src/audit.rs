@@ -7,6 +7,7 @@ use crate::cpu::{self, Machine, RunOutcome, RunResult, StepOutcome, MEMORY_BYTES
 use crate::image::halfword;
 use crate::instruction::{decode, Instruction};
 use crate::program::Program;
+use crate::traffic::Touched;
 
 /// Runs a program on this crate's cpu for at most `budget` steps. The machine starts at address 0
 /// and the memory holds the code.
@@ -30,15 +31,15 @@ pub fn audit_with(
     let limits = Limits::new(program);
     check_start(program, machine, memory)?;
     let original = memory.to_vec();
-    let mut count = 0;
+    let (mut count, mut touched) = (0, Touched::NoData);
     loop {
         let instruction = limits
             .check_state(machine, memory)
             .map_err(|what| format!("after {count} steps: {what}"))?;
         if count == budget {
-            return Ok(ended(RunOutcome::Spent, count));
+            return Ok(RunResult { outcome: RunOutcome::Spent, count, touched });
         }
-        let due = expected(instruction, machine.note);
+        let due = expected(instruction, machine);
         let got = (step(machine, memory), machine.note);
         limits
             .check_unchanged(&original, memory)
@@ -46,24 +47,22 @@ pub fn audit_with(
         if got != due {
             return Err(format!("after {count} steps: {instruction:?} gives {got:?}, not {due:?}"));
         }
-        if got.0 == StepOutcome::Halted {
-            return Ok(ended(RunOutcome::Halted, count));
-        }
+        // What is due is either a completed step or HALT.
+        let StepOutcome::Completed(data) = got.0 else {
+            return Ok(RunResult { outcome: RunOutcome::Halted, count, touched });
+        };
+        touched = data;
         count += 1;
     }
 }
 
 /// What a step of an accepted program answers, and the note after it: HALT ends the run and leaves
-/// its own, and any other instruction is completed and leaves the one from before.
-fn expected(instruction: Instruction, before: u8) -> (StepOutcome, u8) {
+/// its own, and any other instruction is completed, tells its data and leaves the note from before.
+fn expected(instruction: Instruction, before: &Machine) -> (StepOutcome, u8) {
     match instruction {
         Instruction::Halt { note } => (StepOutcome::Halted, note),
-        _ => (StepOutcome::Completed, before),
+        _ => (StepOutcome::Completed(data_access(before, instruction)), before.note),
     }
-}
-
-fn ended(outcome: RunOutcome, count: u32) -> RunResult {
-    RunResult { outcome, count }
 }
 
 /// What must hold before a run, or its audit says nothing.
@@ -116,8 +115,11 @@ impl Limits {
     }
 
     fn check_access(&self, machine: &Machine, instruction: Instruction) -> Result<(), String> {
-        let Some((address, size)) = data_access(machine, instruction) else {
-            return Ok(());
+        let (address, size) = match data_access(machine, instruction) {
+            Touched::NoData => return Ok(()),
+            Touched::Read { address, bytes } | Touched::Wrote { address, bytes } => {
+                (usize::from(address), usize::from(bytes))
+            }
         };
         if size == 2 && address % 4 != 0 {
             return Err(format!("misaligned access to {address}"));
@@ -139,14 +141,17 @@ impl Limits {
     }
 }
 
-/// Address and size of the data an instruction loads or stores, if it does.
-fn data_access(machine: &Machine, instruction: Instruction) -> Option<(usize, usize)> {
+/// The data that an instruction loads or stores, unless it is stopped.
+fn data_access(machine: &Machine, instruction: Instruction) -> Touched {
     use Instruction::*;
-    let (rb, offset, size) = match instruction {
+    let (rb, offset, bytes) = match instruction {
         Str { offset, rb, .. } | Ldr { offset, rb, .. } => (rb, 4 * u16::from(offset), 2),
         Strb { offset, rb, .. } | Ldrb { offset, rb, .. } => (rb, u16::from(offset), 1),
-        _ => return None,
+        _ => return Touched::NoData,
     };
     let address = machine.regs[usize::from(rb)].wrapping_add(offset);
-    Some((usize::from(address), size))
+    match instruction {
+        Str { .. } | Strb { .. } => Touched::Wrote { address, bytes },
+        _ => Touched::Read { address, bytes },
+    }
 }

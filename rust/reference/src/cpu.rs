@@ -3,6 +3,7 @@
 use crate::condition::holds_fast;
 use crate::instruction::{branch_target, lookup, pc_relative, Instruction};
 use crate::refusal::{Refusal, MEMORY_SIZE};
+use crate::traffic::Touched;
 
 /// Bytes in the address space.
 pub const MEMORY_BYTES: usize = 65_536;
@@ -41,8 +42,8 @@ pub struct Machine {
 /// What became of one step.
 #[derive(Clone, Copy, Debug, PartialEq, Eq)]
 pub enum StepOutcome {
-    /// One instruction was executed.
-    Completed,
+    /// One instruction was executed, and this is the data it touched.
+    Completed(Touched),
     /// The program counter is at HALT; nothing changed but the note, which is now HALT's.
     Halted,
     /// Stop 18, 19 or 20; nothing changed.
@@ -71,13 +72,15 @@ pub struct RunResult {
     pub outcome: RunOutcome,
     /// Steps completed.
     pub count: u32,
+    /// The data that the last of them touched; no data if there was none.
+    pub touched: Touched,
 }
 
 /// Executes the instruction at the program counter.
 pub fn step(machine: &mut Machine, memory: &mut [u8]) -> StepOutcome {
     match <&mut Memory>::try_from(memory) {
         Ok(memory) => match execute_next(machine, memory, machine.regs[PC]) {
-            Ok(_) => StepOutcome::Completed,
+            Ok(done) => StepOutcome::Completed(done.touched),
             Err(Ending::Halt) => StepOutcome::Halted,
             Err(Ending::Stop(number)) => StepOutcome::Stopped(number),
         },
@@ -89,7 +92,7 @@ pub fn step(machine: &mut Machine, memory: &mut [u8]) -> StepOutcome {
 pub fn run(machine: &mut Machine, memory: &mut [u8], budget: u32) -> RunResult {
     match <&mut Memory>::try_from(memory) {
         Ok(memory) => run_in(machine, memory, budget),
-        Err(_) => RunResult { outcome: RunOutcome::Refused(Refusal::of(MEMORY_SIZE)), count: 0 },
+        Err(_) => ended(RunOutcome::Refused(Refusal::of(MEMORY_SIZE)), 0, Touched::NoData),
     }
 }
 
@@ -97,18 +100,33 @@ fn run_in(machine: &mut Machine, memory: &mut Memory, budget: u32) -> RunResult 
     // The program counter is carried beside its register, so that a fetch need not wait for
     // the register file.
     let mut pc = machine.regs[PC];
+    let mut touched = Touched::NoData;
     for count in 0..budget {
         match execute_next(machine, memory, pc) {
-            Ok(next) => pc = next,
-            Err(Ending::Halt) => return ended(RunOutcome::Halted, count),
-            Err(Ending::Stop(number)) => return ended(RunOutcome::Stopped(number), count),
+            Ok(done) => Completed { next: pc, touched } = done,
+            Err(Ending::Halt) => return ended(RunOutcome::Halted, count, touched),
+            Err(Ending::Stop(number)) => return ended(RunOutcome::Stopped(number), count, touched),
         }
     }
-    ended(RunOutcome::Spent, budget)
+    ended(RunOutcome::Spent, budget, touched)
 }
 
-fn ended(outcome: RunOutcome, count: u32) -> RunResult {
-    RunResult { outcome, count }
+fn ended(outcome: RunOutcome, count: u32, touched: Touched) -> RunResult {
+    RunResult { outcome, count, touched }
+}
+
+/// What a completed step leaves besides its effects.
+struct Completed {
+    /// The next value of R15.
+    next: u16,
+    touched: Touched,
+}
+
+impl Completed {
+    #[inline(always)]
+    fn without_data(next: u16) -> Self {
+        Completed { next, touched: Touched::NoData }
+    }
 }
 
 /// Why no step was completed.
@@ -117,29 +135,29 @@ enum Ending {
     Stop(u8),
 }
 
-/// Executes the instruction at `pc`, which is also the value of R15. Answers the next value of
-/// R15, already stored. Every check comes before the first effect.
+/// Executes the instruction at `pc`, which is also the value of R15, and stores the next value of
+/// R15. Every check comes before the first effect.
 #[inline(always)]
-fn execute_next(machine: &mut Machine, memory: &mut Memory, pc: u16) -> Result<u16, Ending> {
+fn execute_next(machine: &mut Machine, memory: &mut Memory, pc: u16) -> Result<Completed, Ending> {
     if !pc.is_multiple_of(2) {
         return Err(Ending::Stop(STOP_ODD_PC));
     }
     let Some(instruction) = lookup(load_halfword(memory, pc)) else {
         return Err(Ending::Stop(STOP_UNDEFINED));
     };
-    let next = execute(machine, memory, pc, instruction)?;
-    machine.regs[PC] = next;
-    Ok(next)
+    let done = execute(machine, memory, pc, instruction)?;
+    machine.regs[PC] = done.next;
+    Ok(done)
 }
 
-/// Executes one instruction and answers the next program counter.
+/// Executes one instruction, but leaves it to the caller to store the next program counter.
 #[inline(always)]
 fn execute(
     machine: &mut Machine,
     memory: &mut Memory,
     pc: u16,
     instruction: Instruction,
-) -> Result<u16, Ending> {
+) -> Result<Completed, Ending> {
     use Instruction::*;
     let next = pc.wrapping_add(2);
     match instruction {
@@ -161,38 +179,44 @@ fn execute(
         }
         AddHigh { rs, rd } => {
             let sum = machine.add(machine.get(rd), machine.get(rs));
-            return Ok(machine.set_or_jump(rd, sum, next));
+            return Ok(Completed::without_data(machine.set_or_jump(rd, sum, next)));
         }
         MovHigh { rs, rd } => {
             let value = machine.get(rs);
             machine.set_sign_and_zero(value);
-            return Ok(machine.set_or_jump(rd, value, next));
+            return Ok(Completed::without_data(machine.set_or_jump(rd, value, next)));
         }
         Str { offset, rb, rd } => {
             let address = machine.word_address(rb, offset)?;
             store_halfword(memory, address, machine.get(rd));
+            return Ok(Completed { next, touched: Touched::Wrote { address, bytes: 2 } });
         }
         Ldr { offset, rb, rd } => {
             let address = machine.word_address(rb, offset)?;
             machine.set(rd, load_halfword(memory, address));
+            return Ok(Completed { next, touched: Touched::Read { address, bytes: 2 } });
         }
         Strb { offset, rb, rd } => {
             let address = machine.byte_address(rb, offset);
             memory[usize::from(address)] = machine.get(rd) as u8;
+            return Ok(Completed { next, touched: Touched::Wrote { address, bytes: 1 } });
         }
         Ldrb { offset, rb, rd } => {
             let address = machine.byte_address(rb, offset);
             machine.set(rd, memory[usize::from(address)].into());
+            return Ok(Completed { next, touched: Touched::Read { address, bytes: 1 } });
         }
         AddPc { rd, imm } => machine.set(rd, pc_relative(pc, imm)),
-        Branch { cond, offset } if machine.holds(cond) => return Ok(branch_target(pc, offset)),
+        Branch { cond, offset } if machine.holds(cond) => {
+            return Ok(Completed::without_data(branch_target(pc, offset)));
+        }
         Branch { .. } => {}
         Halt { note } => {
             machine.note = note;
             return Err(Ending::Halt);
         }
     }
-    Ok(next)
+    Ok(Completed::without_data(next))
 }
 
 impl Machine {

@@ -17,4 +17,5 @@ pub mod loader;
 pub mod program;
 pub mod refusal;
 pub mod table;
+pub mod traffic;
 pub mod verifier;

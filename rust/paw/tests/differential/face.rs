@@ -1,5 +1,5 @@
-//! The exported functions as C calls them: words with any fields, and the machine's record byte by
-//! byte.
+//! The exported functions as C calls them: words with any fields, the machine's record byte by
+//! byte, and answers bit by bit.
 
 use std::hash::{DefaultHasher, Hash, Hasher};
 use std::mem::MaybeUninit;
@@ -93,6 +93,10 @@ impl Record {
         Record { before: GUARD, bytes, after: GUARD }
     }
 
+    fn set(&mut self, register: usize, value: u16) {
+        self.bytes[2 * register..2 * register + 2].copy_from_slice(&value.to_le_bytes());
+    }
+
     /// All that has a meaning.
     fn meaning(&self) -> &[u8] {
         assert_eq!([self.before, self.after], [GUARD; 2], "bytes that were not lent changed");
@@ -109,6 +113,16 @@ impl Record {
         // SAFETY: as for `step`.
         unsafe { paw_run(self.bytes.as_mut_ptr(), memory.as_mut_ptr(), memory.len(), budget) }
     }
+}
+
+/// What an answer tells of an access: the kind above the number, and the address above that.
+fn access(kind: u32, address: u16) -> u32 {
+    u32::from(address) << 16 | kind << 8
+}
+
+/// The answer of a run: the count above all that a step tells.
+fn answer_of(count: u32, low: u32) -> u64 {
+    u64::from(count) << 32 | u64::from(low)
 }
 
 fn memory_of(code: &[u16]) -> Vec<u8> {
@@ -161,7 +175,8 @@ fn nothing_depends_on_the_last_byte() {
             let (answer, bytes, _) = &ends[0];
             let halted = budget == 5;
             let number = if halted { MET_HALT } else { 0 };
-            assert_eq!(*answer, u64::from(budget.min(4)) << 32 | u64::from(number));
+            let last = if budget < 4 { 0 } else { access(3, 200) };
+            assert_eq!(*answer, answer_of(budget.min(4), last | number));
             assert_eq!(bytes[NOTE], if halted { 77 } else { note });
         }
     }
@@ -187,4 +202,90 @@ fn machines_are_equal_by_their_fields() {
     assert_eq!(one, other);
     assert_eq!(hash(one), hash(other));
     assert_ne!(*one, paw::Machine { note: 8, ..*other });
+}
+
+/// LDRB, LDR, STRB and STR of R1 where R0 points, each in the place of its kind from 1 on.
+const ACCESSES: [u16; 4] = [0x7801, 0x6801, 0x7001, 0x6001];
+
+/// Addresses with bits at both ends, all of which 4 divides.
+const ALIGNED: [u16; 8] = [0x0000, 0x0004, 0x00FC, 0x0100, 0x7FFC, 0x8000, 0xFF00, 0xFFFC];
+
+/// Addresses for bytes besides.
+const ASKEW: [u16; 6] = [0x0001, 0x00FF, 0x0101, 0x7FFF, 0x8001, 0xFFFF];
+
+/// Every access at each of its addresses: its halfword, its kind and the address.
+fn accesses() -> Vec<(u16, u32, u16)> {
+    let mut all = Vec::new();
+    for (kind, halfword) in (1..).zip(ACCESSES) {
+        let of_byte = kind % 2 == 1;
+        let askew = if of_byte { &ASKEW[..] } else { &[] };
+        all.extend(ALIGNED.iter().chain(askew).map(|&address| (halfword, kind, address)));
+    }
+    all
+}
+
+/// Alone, and with each ending behind it, none of which leaves a bit of its own above the number.
+#[test]
+fn the_access_stands_above_the_number() {
+    let mut rng = Rng::new(803);
+    // HALT; undefined; LDR and STR of R1 where R2 points, which is odd.
+    let behind = [(0x0000, 255), (0x00FF, 255), (0xFFFF, 19), (0x6811, 20), (0x6011, 20)];
+    for (halfword, kind, address) in accesses() {
+        let mut start = Record::any(&mut rng, 0x5A, 0xA5);
+        start.set(0, address);
+        start.set(2, 0xFFFF);
+        let told = access(kind, address);
+        assert_eq!(start.clone().step(&mut memory_of(&[halfword])), told);
+        for (next, number) in behind {
+            let code = [halfword, next];
+            let at_once = start.clone().run(&mut memory_of(&code), 9);
+            assert_eq!(at_once, answer_of(1, told | number), "{halfword:#06x} {next:#06x}");
+
+            let (mut record, mut memory) = (start.clone(), memory_of(&code));
+            assert_eq!(record.run(&mut memory, 0), 0);
+            assert_eq!(record.run(&mut memory, 1), answer_of(1, told));
+            assert_eq!(record.step(&mut memory), number);
+            assert_eq!(record.run(&mut memory, 9), answer_of(0, number));
+        }
+    }
+}
+
+/// Nothing is left of an access behind which a step without data is completed.
+#[test]
+fn no_data_is_no_bit() {
+    let mut rng = Rng::new(804);
+    let jump = 0x469F; // MOV R15, R3
+    // MOV R1, #9; CMP R0, R0; BEQ +4; BNE +4. HALT is wherever they lead.
+    let others = [0x2109, 0x4140, 0xD002, 0xD102, jump];
+    for (halfword, _, address) in accesses() {
+        let mut start = Record::any(&mut rng, 0x5A, 0xA5);
+        start.set(0, address);
+        start.set(1, 0); // so that what a store puts into the code is HALT
+        start.set(3, 0x4000);
+        for other in others {
+            let run = |budget| start.clone().run(&mut memory_of(&[halfword, other]), budget);
+            assert_eq!(run(2), answer_of(2, 0), "{halfword:#06x} {other:#06x}");
+            assert_eq!(run(3), answer_of(2, MET_HALT), "{halfword:#06x} {other:#06x}");
+        }
+        start.set(3, 0x4001);
+        assert_eq!(start.run(&mut memory_of(&[halfword, jump]), 3), answer_of(2, 18));
+    }
+}
+
+/// A refusal is its number alone.
+#[test]
+fn a_refused_memory_tells_no_access() {
+    let mut rng = Rng::new(805);
+    for (halfword, _, address) in accesses() {
+        for length in [0, 2, 65_535, 65_537] {
+            let bytes = halfword.to_le_bytes().into_iter().cycle();
+            let mut memory: Vec<u8> = bytes.take(length).collect();
+            let mut record = Record::any(&mut rng, 0x5A, 0xA5);
+            record.set(0, address);
+            assert_eq!(record.step(&mut memory), 1);
+            for budget in [0, 1, u32::MAX] {
+                assert_eq!(record.run(&mut memory, budget), 1);
+            }
+        }
+    }
 }

@@ -256,9 +256,10 @@ fn the_sample_at_work() {
         let mut machine = library_machine(&Machine::default());
         machine.regs[0] = r0;
         let ended = paw::run(&mut machine, &mut memory, u32::MAX);
-        let halted = paw::Run { outcome: paw::RunOutcome::Halted, steps: 6 };
-        assert_eq!(ended, Ok(halted));
         let address = 256 + (r0 & 0xFC);
+        let traffic = paw::Traffic::WroteHalfword(address);
+        let halted = paw::Run { outcome: paw::RunOutcome::Halted, steps: 6, traffic };
+        assert_eq!(ended, Ok(halted));
         assert_eq!(machine.regs[..3], [address, 0xFC, 256]);
         let written = usize::from(address);
         assert_eq!(memory[written], 0xFC);

@@ -7,20 +7,23 @@ use reference::image::{BLOCK_BYTES, Layout};
 use reference::instruction::{Instruction, encode};
 use reference::loader::place_code;
 use reference::refusal::Refusal;
+use reference::traffic::Touched;
 
-use crate::support::{Guarded, Twins, answer, library_run, library_step, quick_machine};
+use crate::support::{
+    Guarded, Twins, answer, library_run, library_step, quick_machine, without_data,
+};
 
 /// CMP R0, #0: completes wherever it stands, and leaves memory alone.
 const COMPARE: u16 = 0x2800;
 
-const HALTED: RunResult = RunResult { outcome: RunOutcome::Halted, count: 0 };
+const HALTED: RunResult = without_data(RunOutcome::Halted, 0);
 
 fn spent(count: u32) -> RunResult {
-    RunResult { outcome: RunOutcome::Spent, count }
+    without_data(RunOutcome::Spent, count)
 }
 
 fn stopped(number: u8) -> RunResult {
-    RunResult { outcome: RunOutcome::Stopped(number), count: 0 }
+    without_data(RunOutcome::Stopped(number), 0)
 }
 
 /// Every note of a HALT, each after every note at the start.
@@ -89,7 +92,7 @@ fn a_budget_that_ends_just_before() {
 
             let mut at_once = start;
             let ended = twins.run(&mut at_once, count + 1);
-            assert_eq!(ended, RunResult { outcome: RunOutcome::Halted, count });
+            assert_eq!(ended, without_data(RunOutcome::Halted, count));
             assert_eq!(at_once, machine);
         }
     }
@@ -192,7 +195,7 @@ fn stops_of_a_run_keep_the_note() {
             let mut machine = Machine { note: before, ..Machine::default() };
             machine.regs[1] = 7; // within the HALT
             let ended = twins.run(&mut machine, 10);
-            assert_eq!(ended, RunResult { outcome: RunOutcome::Stopped(number), count });
+            assert_eq!(ended, without_data(RunOutcome::Stopped(number), count));
             assert_eq!(machine.note, before);
         }
     }
@@ -212,7 +215,7 @@ fn memories_of_another_size_keep_the_note() {
             assert_eq!(outcome, StepOutcome::Refused(refusal));
             for budget in [0, 1, u32::MAX] {
                 let ended = library_run(&mut machine, &mut memory, budget);
-                let refused = RunResult { outcome: RunOutcome::Refused(refusal), count: 0 };
+                let refused = without_data(RunOutcome::Refused(refusal), 0);
                 assert_eq!(ended, refused);
             }
             assert_eq!(machine, start);
@@ -230,7 +233,8 @@ fn a_note_that_the_program_wrote() {
         let mut machine = Machine { note: 0xAA, ..Machine::default() };
         machine.regs[1] = 0x9900 | u16::from(written);
         let ended = twins_of(&code).run(&mut machine, 2);
-        assert_eq!(ended, RunResult { outcome: RunOutcome::Halted, count: 1 });
+        let touched = Touched::Wrote { address: 2, bytes: 1 };
+        assert_eq!(ended, RunResult { outcome: RunOutcome::Halted, count: 1, touched });
         assert_eq!(machine.note, written);
     }
     // Into the byte above, where all but 0 ends in a stop or in another instruction.
@@ -273,7 +277,7 @@ fn images_that_end_in_each_note() {
         }
         let mut machine = Machine { note: !last as u8, ..Machine::default() };
         let ended = Twins::new(&memory).run(&mut machine, 10);
-        assert_eq!(ended, RunResult { outcome: RunOutcome::Halted, count: 1 });
+        assert_eq!(ended, without_data(RunOutcome::Halted, 1));
         assert_eq!(u16::from(machine.note), last);
     }
 }

@@ -10,7 +10,7 @@ use reference::instruction::{Instruction, encode};
 use reference::loader::place_code;
 use reference::refusal::Refusal;
 
-use crate::support::{Guarded, Twins, library_run, rounds};
+use crate::support::{Guarded, Twins, library_run, rounds, without_data};
 
 /// How often runs ended in which way, and how many steps they made.
 #[derive(Default)]
@@ -161,7 +161,8 @@ fn steps_of_new_code(mut machine: Machine, memory: &[u8], budget: u32) -> usize 
         let pc = usize::from(machine.regs[PC]);
         let near = pc.saturating_sub(64)..(pc + 64).min(MEMORY_BYTES);
         let before = memory[near.clone()].to_vec();
-        if reference::cpu::step(&mut machine, &mut memory) != StepOutcome::Completed {
+        let outcome = reference::cpu::step(&mut machine, &mut memory);
+        if !matches!(outcome, StepOutcome::Completed(_)) {
             break;
         }
         count += usize::from(changed.contains(&(pc & !1)));
@@ -230,10 +231,10 @@ fn odd_starts_stop_at_once() {
         machine.regs[PC] |= 1;
         let before = machine;
         let unspent = twins.run(&mut machine, 0);
-        assert_eq!(unspent, RunResult { outcome: RunOutcome::Spent, count: 0 });
+        assert_eq!(unspent, without_data(RunOutcome::Spent, 0));
         let budget = rng.between(1, u32::MAX as usize) as u32;
         let stopped = twins.run(&mut machine, budget);
-        assert_eq!(stopped, RunResult { outcome: RunOutcome::Stopped(18), count: 0 });
+        assert_eq!(stopped, without_data(RunOutcome::Stopped(18), 0));
         assert_eq!(machine, before);
     }
     assert!(twins.library[..] == memory);
@@ -272,8 +273,8 @@ fn budgets_around_the_end() {
                 [machine.regs[0], machine.regs[1]] = [start as u16, u16::MAX];
                 machine.regs[2] = 0x4001;
                 let ended = twins.run(&mut machine, budget);
-                let spent = RunResult { outcome: RunOutcome::Spent, count: budget };
-                let full = RunResult { outcome, count: steps };
+                let spent = without_data(RunOutcome::Spent, budget);
+                let full = without_data(outcome, steps);
                 assert_eq!(ended, if budget <= steps { spent } else { full });
                 let halted = ended.outcome == RunOutcome::Halted;
                 assert_eq!(machine.note, if halted { end as u8 } else { 0x5A });
@@ -304,7 +305,7 @@ fn a_run_of_two_million_steps() {
     let mut machine = Machine::default();
     let count = rounds(2_000_000) as u32;
     let ended = twins.run(&mut machine, count);
-    assert_eq!(ended, RunResult { outcome: RunOutcome::Spent, count });
+    assert_eq!((ended.outcome, ended.count), (RunOutcome::Spent, count));
     assert!(twins.library[800..].iter().any(|&byte| byte != 0), "nothing was stored");
 }
 
@@ -319,7 +320,7 @@ fn memories_of_another_size_are_refused() {
             let before = generate::machine(&mut rng);
             let mut machine = before;
             let ended = library_run(&mut machine, &mut memory, budget);
-            assert_eq!(ended, RunResult { outcome: refused, count: 0 });
+            assert_eq!(ended, without_data(refused, 0));
             let expected = reference::cpu::run(&mut machine, &mut content.clone(), budget);
             assert_eq!(ended, expected);
             assert_eq!(machine, before);

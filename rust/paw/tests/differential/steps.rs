@@ -5,6 +5,7 @@ use reference::cpu::{MEMORY_BYTES, Machine, PC, StepOutcome};
 use reference::generate::{self, Rng};
 use reference::instruction::{Instruction, decode, encode};
 use reference::refusal::Refusal;
+use reference::traffic::Touched;
 
 use crate::support::{Guarded, Twins, edges, library_step, quick_machine, rounds};
 
@@ -74,7 +75,7 @@ fn data_address(machine: &Machine, instruction: Instruction) -> Option<usize> {
 
 fn place(outcome: StepOutcome) -> usize {
     match outcome {
-        StepOutcome::Completed => 0,
+        StepOutcome::Completed(_) => 0,
         StepOutcome::Halted => 1,
         StepOutcome::Stopped(number) => usize::from(number) - 16,
         StepOutcome::Refused(_) => panic!("the memory has its size"),
@@ -177,7 +178,7 @@ fn sweep(instruction: Instruction, pairs: impl Iterator<Item = (u16, u16)>) -> u
         // Flags and note before are different at each step, and independent of the values.
         [machine.n, machine.z, machine.c, machine.v] = [1, 2, 4, 8].map(|bit| count & bit != 0);
         machine.note = (count >> 4) as u8;
-        assert_eq!(twins.step(&mut machine), StepOutcome::Completed);
+        assert_eq!(twins.step(&mut machine), StepOutcome::Completed(Touched::NoData));
         count += 1;
     }
     twins.assert_alike();

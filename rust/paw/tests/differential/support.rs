@@ -6,11 +6,16 @@ use reference::cpu::{Machine, PC, RunOutcome, RunResult, StepOutcome};
 use reference::generate::Rng;
 use reference::image::Layout;
 use reference::refusal::Refusal;
+use reference::traffic::Touched;
 
-/// Rounds of a random test: many more if `PAW_LONG=1` asks for them.
+/// Whether `PAW_LONG=1` asks for long tests.
+pub fn long() -> bool {
+    std::env::var_os("PAW_LONG").is_some_and(|value| value == "1")
+}
+
+/// Rounds of a random test: many more of a long one.
 pub fn rounds(usual: usize) -> usize {
-    let long = std::env::var_os("PAW_LONG").is_some_and(|value| value == "1");
-    usual * if long { 20 } else { 1 }
+    usual * if long() { 20 } else { 1 }
 }
 
 /// Any machine, made in a fraction of the time of `generate::machine`, since the tests of single
@@ -98,6 +103,17 @@ pub fn answer(answer: Result<paw::Layout, paw::Refusal>) -> Result<Layout, Refus
     }
 }
 
+/// A library's traffic as the reference writes it.
+pub fn touched(traffic: paw::Traffic) -> Touched {
+    match traffic {
+        paw::Traffic::NoData => Touched::NoData,
+        paw::Traffic::ReadByte(address) => Touched::Read { address, bytes: 1 },
+        paw::Traffic::ReadHalfword(address) => Touched::Read { address, bytes: 2 },
+        paw::Traffic::WroteByte(address) => Touched::Wrote { address, bytes: 1 },
+        paw::Traffic::WroteHalfword(address) => Touched::Wrote { address, bytes: 2 },
+    }
+}
+
 /// The number that an answer carries, 0 for a pass.
 pub fn number<T>(answer: &Result<T, Refusal>) -> usize {
     match answer {
@@ -122,7 +138,7 @@ pub fn library_step(machine: &mut Machine, memory: &mut [u8]) -> StepOutcome {
     let outcome = paw::step(&mut record, memory);
     *machine = reference_machine(&record);
     match outcome {
-        Ok(paw::StepOutcome::Completed) => StepOutcome::Completed,
+        Ok(paw::StepOutcome::Completed(traffic)) => StepOutcome::Completed(touched(traffic)),
         Ok(paw::StepOutcome::Halted) => StepOutcome::Halted,
         Ok(paw::StepOutcome::Stopped(stop)) => StepOutcome::Stopped(stop.number()),
         Err(refused) => StepOutcome::Refused(refusal(refused)),
@@ -134,15 +150,25 @@ pub fn library_run(machine: &mut Machine, memory: &mut [u8], budget: u32) -> Run
     let mut record = library_machine(machine);
     let ended = paw::run(&mut record, memory, budget);
     *machine = reference_machine(&record);
-    let (outcome, count) = match ended {
-        Ok(paw::Run { outcome: paw::RunOutcome::Spent, steps }) => (RunOutcome::Spent, steps),
-        Ok(paw::Run { outcome: paw::RunOutcome::Halted, steps }) => (RunOutcome::Halted, steps),
-        Ok(paw::Run { outcome: paw::RunOutcome::Stopped(stop), steps }) => {
-            (RunOutcome::Stopped(stop.number()), steps)
+    match ended {
+        Ok(paw::Run { outcome, steps, traffic }) => {
+            RunResult { outcome: run_outcome(outcome), count: steps, touched: touched(traffic) }
         }
-        Err(refused) => (RunOutcome::Refused(refusal(refused)), 0),
-    };
-    RunResult { outcome, count }
+        Err(refused) => without_data(RunOutcome::Refused(refusal(refused)), 0),
+    }
+}
+
+/// A run whose last completed step, if there was one, touched no data.
+pub const fn without_data(outcome: RunOutcome, count: u32) -> RunResult {
+    RunResult { outcome, count, touched: Touched::NoData }
+}
+
+fn run_outcome(outcome: paw::RunOutcome) -> RunOutcome {
+    match outcome {
+        paw::RunOutcome::Spent => RunOutcome::Spent,
+        paw::RunOutcome::Halted => RunOutcome::Halted,
+        paw::RunOutcome::Stopped(stop) => RunOutcome::Stopped(stop.number()),
+    }
 }
 
 /// Both engines, each with a memory of its own; the memories must stay alike.
@@ -156,7 +182,8 @@ impl Twins {
         Twins { library: Guarded::new(memory), reference: memory.to_vec() }
     }
 
-    /// One step of both from the same machine. Compares outcome, registers, flags and note.
+    /// One step of both from the same machine. Compares outcome, traffic, registers, flags and
+    /// note.
     pub fn step(&mut self, machine: &mut Machine) -> StepOutcome {
         let before = *machine;
         let mut other = before;
@@ -168,8 +195,8 @@ impl Twins {
         outcome
     }
 
-    /// One run of both from the same machine. Compares outcome, count, registers, flags, note and
-    /// every byte of memory.
+    /// One run of both from the same machine. Compares outcome, count, traffic, registers, flags,
+    /// note and every byte of memory.
     pub fn run(&mut self, machine: &mut Machine, budget: u32) -> RunResult {
         let before = *machine;
         let mut other = before;

@@ -2,7 +2,7 @@
 
 use std::collections::HashSet;
 
-use paw::{Check, Condition, Place, Refusal, RunOutcome, StepOutcome, Stop};
+use paw::{Check, Condition, Place, Refusal, RunOutcome, StepOutcome, Stop, Traffic};
 
 const HEADER: &str = include_str!("../../../../include/paw.h");
 
@@ -48,7 +48,9 @@ fn endings() {
     assert_eq!(RunOutcome::Halted.to_string(), StepOutcome::Halted.to_string());
     assert!(in_header(&RunOutcome::Halted.to_string()));
     assert!(HEADER.contains(&format!("PAW_SPENT ? \"{}\"", RunOutcome::Spent)));
-    assert_eq!(StepOutcome::Completed.to_string(), "completed");
+    assert_eq!(StepOutcome::Completed(Traffic::NoData).to_string(), "completed");
+    let loaded = StepOutcome::Completed(Traffic::ReadHalfword(256));
+    assert_eq!(loaded.to_string(), "completed, read 2 bytes at 256");
 }
 
 #[test]

@@ -1,9 +1,10 @@
 use reference::audit::{audit, audit_with};
-use reference::cpu::{run, step, Machine, RunOutcome, StepOutcome, MEMORY_BYTES, PC};
+use reference::cpu::{run, step, Machine, RunOutcome, RunResult, StepOutcome, MEMORY_BYTES, PC};
 use reference::generate::{self, Rng};
 use reference::instruction::Instruction;
 use reference::loader::{load, place_code};
 use reference::program::Program;
+use reference::traffic::Touched;
 use Instruction::*;
 
 const HALT: Instruction = Halt { note: 9 };
@@ -27,7 +28,7 @@ fn fit_programs_do_no_harm() {
 }
 
 /// Loads a program, runs it under audit, and runs it again without; both must agree.
-fn audit_loaded(rng: &mut Rng, program: &Program, budget: u32) -> reference::cpu::RunResult {
+fn audit_loaded(rng: &mut Rng, program: &Program, budget: u32) -> RunResult {
     let mut memory = generate::memory(rng);
     load(&program.file().unwrap(), &mut memory).expect("generated to be fit");
     if rng.flip() {
@@ -157,9 +158,43 @@ fn the_audit_sees_a_bad_engine() {
     assert!(noting_early.unwrap_err().starts_with("after 0 steps: CmpImm "));
     let running_over_halt = audited(|machine, _| {
         machine.regs[PC] = 2;
-        StepOutcome::Completed
+        StepOutcome::Completed(Touched::NoData)
     });
     assert!(running_over_halt.is_err());
+}
+
+/// Audits one step, STRB R1, [R0] at 256, of an engine that tells of it in its own way.
+fn audited_telling(told: fn(Touched) -> Touched) -> Result<RunResult, String> {
+    let code = [Strb { offset: 0, rb: 0, rd: 1 }, HALT];
+    let program = Program::assemble(&code, 256, 4).unwrap();
+    let mut memory = vec![0; MEMORY_BYTES];
+    place_code(&program.code, &mut memory);
+    let mut machine = Machine::default();
+    machine.regs[0] = 256;
+    let telling = |machine: &mut Machine, memory: &mut [u8]| match step(machine, memory) {
+        StepOutcome::Completed(touched) => StepOutcome::Completed(told(touched)),
+        other => other,
+    };
+    audit_with(telling, &program, &mut machine, &mut memory, 1)
+}
+
+#[test]
+fn the_audit_sees_bad_traffic() {
+    let truth = Touched::Wrote { address: 256, bytes: 1 };
+    let spent = RunResult { outcome: RunOutcome::Spent, count: 1, touched: truth };
+    assert_eq!(audited_telling(|touched| touched), Ok(spent));
+    let lies: [fn(Touched) -> Touched; 4] = [
+        |_| Touched::NoData,
+        |_| Touched::Read { address: 256, bytes: 1 },
+        |_| Touched::Wrote { address: 257, bytes: 1 },
+        |_| Touched::Wrote { address: 256, bytes: 2 },
+    ];
+    for lie in lies {
+        let complaint = audited_telling(lie).unwrap_err();
+        let words =
+            format!("gives (Completed({:?}), 0), not (Completed({truth:?}), 0)", lie(truth));
+        assert!(complaint.ends_with(&words), "{complaint}");
+    }
 }
 
 #[test]

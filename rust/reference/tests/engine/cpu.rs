@@ -3,6 +3,7 @@ use reference::generate::{self, Rng};
 use reference::instruction::{decode, encode, Instruction};
 use reference::loader::place_code;
 use reference::refusal::Refusal;
+use reference::traffic::Touched;
 use Instruction::*;
 
 use crate::naive;
@@ -16,11 +17,16 @@ fn memory_with(instructions: &[Instruction]) -> Vec<u8> {
     memory
 }
 
+/// The end of a run whose last step, if it made one, was no load or store.
+fn ended(outcome: RunOutcome, count: u32) -> RunResult {
+    RunResult { outcome, count, touched: Touched::NoData }
+}
+
 /// One step of an instruction at address 0.
 fn stepped(instruction: Instruction, mut machine: Machine) -> Machine {
     machine.regs[PC] = 0;
     let mut memory = memory_with(&[instruction]);
-    assert_eq!(step(&mut machine, &mut memory), StepOutcome::Completed);
+    assert!(matches!(step(&mut machine, &mut memory), StepOutcome::Completed(_)));
     machine
 }
 
@@ -81,7 +87,7 @@ fn shifts() {
 fn reading_the_pc() {
     let mut memory = memory_with(&[HALT, HALT, HALT, AddPc { rd: 0, imm: 1 }]);
     let mut machine = with_regs(&[(PC, 6)]);
-    assert_eq!(step(&mut machine, &mut memory), StepOutcome::Completed);
+    assert_eq!(step(&mut machine, &mut memory), StepOutcome::Completed(Touched::NoData));
     assert_eq!((machine.regs[0], machine.regs[PC]), (8, 8));
 
     let mut memory = memory_with(&[
@@ -111,8 +117,7 @@ fn writing_the_pc() {
 
     let mut memory = memory_with(&[AddHigh { rs: 0, rd: 15 }]);
     let mut machine = with_regs(&[(0, 5)]);
-    let ended = run(&mut machine, &mut memory, 9);
-    assert_eq!(ended, RunResult { outcome: RunOutcome::Stopped(18), count: 1 });
+    assert_eq!(run(&mut machine, &mut memory, 9), ended(RunOutcome::Stopped(18), 1));
     assert_eq!(machine.regs[PC], 5);
 }
 
@@ -121,8 +126,7 @@ fn pc_wraps() {
     let mut memory = vec![0; MEMORY_BYTES];
     memory[0xFFFE..].copy_from_slice(&encode(CmpImm { rd: 0, imm: 0 }).unwrap().to_le_bytes());
     let mut machine = with_regs(&[(PC, 0xFFFE)]);
-    let ended = run(&mut machine, &mut memory, 5);
-    assert_eq!(ended, RunResult { outcome: RunOutcome::Halted, count: 1 });
+    assert_eq!(run(&mut machine, &mut memory, 5), ended(RunOutcome::Halted, 1));
     assert_eq!(machine.regs[PC], 0);
 }
 
@@ -154,7 +158,7 @@ fn code_that_changes_itself() {
     let halted = run(&mut machine, &mut memory, 9);
     assert_eq!((halted.outcome, halted.count), (RunOutcome::Halted, 1));
     machine.regs[PC] = 4;
-    assert_eq!(step(&mut machine, &mut memory), StepOutcome::Completed);
+    assert_eq!(step(&mut machine, &mut memory), StepOutcome::Completed(Touched::NoData));
     assert_eq!(machine.regs[7], 77);
 }
 
@@ -181,11 +185,11 @@ fn assert_stop(number: u8, machine: Machine, memory: &[u8]) {
     let (mut after, mut memory_after) = (machine, memory.to_vec());
     assert_eq!(step(&mut after, &mut memory_after), StepOutcome::Stopped(number));
     assert_eq!((after, &memory_after[..]), (machine, memory));
-    let ended = run(&mut after, &mut memory_after, 3);
-    assert_eq!(ended, RunResult { outcome: RunOutcome::Stopped(number), count: 0 });
+    let stopped = run(&mut after, &mut memory_after, 3);
+    assert_eq!(stopped, ended(RunOutcome::Stopped(number), 0));
     assert_eq!((after, &memory_after[..]), (machine, memory));
     let unspent = run(&mut after, &mut memory_after, 0);
-    assert_eq!(unspent, RunResult { outcome: RunOutcome::Spent, count: 0 });
+    assert_eq!(unspent, ended(RunOutcome::Spent, 0));
 }
 
 #[test]
@@ -201,7 +205,7 @@ fn budgets() {
     for (budget, outcome, count, pc) in expected {
         let mut memory = memory_with(&moves);
         let mut machine = Machine::default();
-        assert_eq!(run(&mut machine, &mut memory, budget), RunResult { outcome, count });
+        assert_eq!(run(&mut machine, &mut memory, budget), ended(outcome, count));
         assert_eq!(machine.regs[PC], pc);
     }
 }
@@ -225,8 +229,8 @@ fn memory_of_another_size() {
         let mut machine = before;
         assert_eq!(step(&mut machine, &mut memory), StepOutcome::Refused(refusal));
         for budget in [0, 1, 100] {
-            let ended = run(&mut machine, &mut memory, budget);
-            assert_eq!(ended, RunResult { outcome: RunOutcome::Refused(refusal), count: 0 });
+            let refused = run(&mut machine, &mut memory, budget);
+            assert_eq!(refused, ended(RunOutcome::Refused(refusal), 0));
         }
         assert_eq!(machine, before);
         assert!(memory.iter().all(|&byte| byte == 0x20));
@@ -250,15 +254,6 @@ fn branches_under_all_flags() {
     }
 }
 
-fn outcome_code(outcome: StepOutcome) -> u8 {
-    match outcome {
-        StepOutcome::Completed => 0,
-        StepOutcome::Halted => 1,
-        StepOutcome::Stopped(number) => number,
-        StepOutcome::Refused(_) => panic!("the memory has its size"),
-    }
-}
-
 #[test]
 fn every_halfword_steps_as_its_page_says() {
     let mut rng = Rng::new(2);
@@ -274,7 +269,7 @@ fn every_halfword_steps_as_its_page_says() {
             let mut naive_machine = machine;
             let outcome = step(&mut machine, &mut memory);
             let expected = naive::step(&mut naive_machine, &mut naive_memory);
-            assert_eq!(outcome_code(outcome), expected, "{halfword:#06X}");
+            assert_eq!(outcome, expected, "{halfword:#06X}");
             assert_eq!(machine, naive_machine, "{halfword:#06X}");
         }
         if halfword % 256 == 0 {
@@ -316,25 +311,29 @@ fn run_is_repeated_steps() {
         let mut machine = generate::machine(&mut rng);
         let budget = rng.below(2_000) as u32;
         let (mut step_memory, mut step_machine) = (memory.clone(), machine);
-        let ended = run(&mut machine, &mut memory, budget);
+        let result = run(&mut machine, &mut memory, budget);
         let expected = run_by_steps(&mut step_machine, &mut step_memory, budget);
-        assert_eq!(ended, expected);
+        assert_eq!(result, expected);
         assert_eq!(machine, step_machine);
         assert!(memory == step_memory);
-        total += ended.count;
+        total += result.count;
     }
     assert!(total > 10_000, "only {total} steps");
 }
 
 fn run_by_steps(machine: &mut Machine, memory: &mut [u8], budget: u32) -> RunResult {
+    let mut touched = Touched::NoData;
     for count in 0..budget {
         let outcome = match step(machine, memory) {
-            StepOutcome::Completed => continue,
+            StepOutcome::Completed(data) => {
+                touched = data;
+                continue;
+            }
             StepOutcome::Halted => RunOutcome::Halted,
             StepOutcome::Stopped(number) => RunOutcome::Stopped(number),
             StepOutcome::Refused(refusal) => RunOutcome::Refused(refusal),
         };
-        return RunResult { outcome, count };
+        return RunResult { outcome, count, touched };
     }
-    RunResult { outcome: RunOutcome::Spent, count: budget }
+    RunResult { outcome: RunOutcome::Spent, count: budget, touched }
 }

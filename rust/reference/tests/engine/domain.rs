@@ -142,7 +142,7 @@ fn follow(
     let pc = machine.regs[PC];
     let halfword = encode(instruction).unwrap();
     memory[usize::from(pc)..][..2].copy_from_slice(&halfword.to_le_bytes());
-    if step(machine, memory) != StepOutcome::Completed {
+    if !matches!(step(machine, memory), StepOutcome::Completed(_)) {
         return false;
     }
     state.apply(instruction, pc);

@@ -1,8 +1,9 @@
-//! A second, slow opinion: encodings as bit patterns, and the instruction pages followed line by
-//! line in wide signed numbers.
+//! A second, slow opinion: encodings as bit patterns, the instruction pages followed line by line
+//! in wide signed numbers, and memory behind a bus that logs every byte of data.
 
-use reference::cpu::Machine;
+use reference::cpu::{Machine, StepOutcome};
 use reference::instruction::Instruction;
+use reference::traffic::Touched;
 use Instruction::*;
 
 type Make = fn(&Fields) -> Instruction;
@@ -69,13 +70,67 @@ fn fields(text: &str, pattern: &str) -> Option<Fields> {
     Some(fields)
 }
 
-/// What one step answers: 0 for a completed one, 1 for HALT, otherwise the stop.
-pub fn step(machine: &mut Machine, memory: &mut [u8]) -> u8 {
+/// Memory, and the accesses to its data byte by byte.
+struct Bus<'a> {
+    memory: &'a mut [u8],
+    log: Vec<(Access, usize)>,
+}
+
+#[derive(Clone, Copy, Debug, PartialEq)]
+enum Access {
+    Read,
+    Write,
+}
+
+impl Bus<'_> {
+    fn read(&mut self, address: usize) -> u8 {
+        self.log.push((Access::Read, address));
+        self.memory[address]
+    }
+
+    fn write(&mut self, address: usize, value: u8) {
+        self.log.push((Access::Write, address));
+        self.memory[address] = value;
+    }
+
+    /// All accesses as one, which they must form.
+    fn traffic(mut self) -> Touched {
+        self.log.sort_by_key(|&(_, address)| address);
+        let Some(&(first, lowest)) = self.log.first() else {
+            return Touched::NoData;
+        };
+        for (i, &entry) in self.log.iter().enumerate() {
+            assert_eq!(entry, (first, lowest + i));
+        }
+        let (address, bytes) = (lowest as u16, self.log.len() as u8);
+        match first {
+            Access::Read => Touched::Read { address, bytes },
+            Access::Write => Touched::Wrote { address, bytes },
+        }
+    }
+}
+
+/// One step in a memory of the right size.
+pub fn step(machine: &mut Machine, memory: &mut [u8]) -> StepOutcome {
+    let mut bus = Bus { memory, log: Vec::new() };
+    let code = step_on(machine, &mut bus);
+    let touched = bus.traffic();
+    assert!(code == 0 || touched == Touched::NoData, "{code} {touched:?}");
+    match code {
+        0 => StepOutcome::Completed(touched),
+        1 => StepOutcome::Halted,
+        stop => StepOutcome::Stopped(stop),
+    }
+}
+
+/// What became of a step: 0 for a completed one, 1 for HALT, otherwise the stop.
+fn step_on(machine: &mut Machine, bus: &mut Bus) -> u8 {
     let pc = i32::from(machine.regs[15]);
     if pc % 2 == 1 {
         return 18;
     }
-    let (low, high) = (memory[pc as usize], memory[pc as usize + 1]);
+    // Not over the bus's log: a fetch is not data.
+    let (low, high) = (bus.memory[pc as usize], bus.memory[pc as usize + 1]);
     let Some(instruction) = decode(u16::from(high) * 256 + u16::from(low)) else {
         return 19;
     };
@@ -91,7 +146,7 @@ pub fn step(machine: &mut Machine, memory: &mut [u8]) -> u8 {
     }
     let old = *machine;
     let mut next = pc + 2;
-    execute(machine, memory, instruction, &mut next);
+    execute(machine, bus, instruction, &mut next);
     let wrote_pc = matches!(instruction, AddHigh { rd: 15, .. } | MovHigh { rd: 15, .. });
     if !wrote_pc {
         assert_eq!(machine.regs[15], old.regs[15]);
@@ -112,7 +167,7 @@ fn signed(value: i32) -> i32 {
     }
 }
 
-fn execute(m: &mut Machine, memory: &mut [u8], instruction: Instruction, next: &mut i32) {
+fn execute(m: &mut Machine, bus: &mut Bus, instruction: Instruction, next: &mut i32) {
     let old = *m;
     let reg = |r: u8| i32::from(old.regs[usize::from(r)]);
     match instruction {
@@ -128,21 +183,21 @@ fn execute(m: &mut Machine, memory: &mut [u8], instruction: Instruction, next: &
         Asr { rs, rd } => shift(m, rd, reg(rd), reg(rs) % 256),
         Str { offset, rb, rd } => {
             let address = usize::from(wrap(reg(rb) + 4 * i32::from(offset)));
-            memory[address + 1] = (reg(rd) / 256) as u8;
-            memory[address] = (reg(rd) % 256) as u8;
+            bus.write(address + 1, (reg(rd) / 256) as u8);
+            bus.write(address, (reg(rd) % 256) as u8);
         }
         Ldr { offset, rb, rd } => {
             let address = usize::from(wrap(reg(rb) + 4 * i32::from(offset)));
-            let data = 256 * u16::from(memory[address + 1]) + u16::from(memory[address]);
+            let data = 256 * u16::from(bus.read(address + 1)) + u16::from(bus.read(address));
             m.regs[usize::from(rd)] = data;
         }
         Strb { offset, rb, rd } => {
             let address = usize::from(wrap(reg(rb) + i32::from(offset)));
-            memory[address] = (reg(rd) % 256) as u8;
+            bus.write(address, (reg(rd) % 256) as u8);
         }
         Ldrb { offset, rb, rd } => {
             let address = usize::from(wrap(reg(rb) + i32::from(offset)));
-            m.regs[usize::from(rd)] = memory[address].into();
+            m.regs[usize::from(rd)] = bus.read(address).into();
         }
         AddPc { rd, imm } => {
             m.regs[usize::from(rd)] = wrap(reg(15) / 4 * 4 + 4 * i32::from(imm));

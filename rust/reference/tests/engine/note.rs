@@ -6,13 +6,14 @@ use reference::image::{pack_file, Layout};
 use reference::instruction::{decode, encode, Instruction};
 use reference::loader::{load, place_code};
 use reference::refusal::Refusal;
+use reference::traffic::Touched;
 use reference::verifier::verify;
 use Instruction::*;
 
 /// A halfword that is defined and does nothing to memory: CMP R0, #0.
 const COMPARE: u16 = 0x2800;
 
-const HALTED: RunResult = RunResult { outcome: RunOutcome::Halted, count: 0 };
+const HALTED: RunResult = ended(RunOutcome::Halted, 0);
 
 fn memory_of(code: &[u16]) -> Vec<u8> {
     let mut memory = vec![0; MEMORY_BYTES];
@@ -24,8 +25,13 @@ fn noting(note: u8) -> Machine {
     Machine { note, ..Machine::default() }
 }
 
+/// The end of a run whose last step, if it made one, was no load or store.
+const fn ended(outcome: RunOutcome, count: u32) -> RunResult {
+    RunResult { outcome, count, touched: Touched::NoData }
+}
+
 fn spent(count: u32) -> RunResult {
-    RunResult { outcome: RunOutcome::Spent, count }
+    ended(RunOutcome::Spent, count)
 }
 
 /// Each note at a start with each note of a HALT.
@@ -109,7 +115,8 @@ fn a_completed_step_keeps_the_note() {
             let mut machine = generate::machine(&mut rng);
             let (pc, before) = (usize::from(machine.regs[PC] & !1), machine.note);
             memory[pc..pc + 2].copy_from_slice(&halfword.to_le_bytes());
-            completed += usize::from(step(&mut machine, &mut memory) == StepOutcome::Completed);
+            let outcome = step(&mut machine, &mut memory);
+            completed += usize::from(matches!(outcome, StepOutcome::Completed(_)));
             assert_eq!(machine.note, before, "{halfword:#06X}");
         }
     }
@@ -129,7 +136,7 @@ fn stops_keep_the_note() {
             (machine.regs[0], machine.regs[PC]) = (2, pc);
             let start = machine;
             assert_eq!(step(&mut machine, &mut memory), StepOutcome::Stopped(number));
-            let stopped = RunResult { outcome: RunOutcome::Stopped(number), count: 0 };
+            let stopped = ended(RunOutcome::Stopped(number), 0);
             assert_eq!(run(&mut machine, &mut memory, 5), stopped);
             assert_eq!(machine, start);
         }
@@ -146,7 +153,7 @@ fn a_refusal_keeps_the_note() {
         let mut machine = noting(before);
         assert_eq!(step(&mut machine, &mut memory), StepOutcome::Refused(refusal));
         for budget in [0, 1, 100] {
-            let refused = RunResult { outcome: RunOutcome::Refused(refusal), count: 0 };
+            let refused = ended(RunOutcome::Refused(refusal), 0);
             assert_eq!(run(&mut machine, &mut memory, budget), refused);
         }
         assert_eq!(machine, noting(before));
@@ -157,8 +164,7 @@ fn a_refusal_keeps_the_note() {
 fn stops_behind_completed_steps_keep_the_note() {
     let mut memory = memory_of(&[COMPARE, COMPARE, 0x0100]);
     let mut machine = noting(77);
-    let ended = run(&mut machine, &mut memory, 9);
-    assert_eq!(ended, RunResult { outcome: RunOutcome::Stopped(19), count: 2 });
+    assert_eq!(run(&mut machine, &mut memory, 9), ended(RunOutcome::Stopped(19), 2));
     assert_eq!(machine.note, 77);
 }
 
@@ -189,8 +195,7 @@ fn a_loaded_program_notes_why_it_ended() {
     load(&file, &mut memory).expect("it is fit");
     for (z, note) in [(false, 0x11), (true, 0x22)] {
         let mut machine = Machine { z, ..noting(99) };
-        let ended = run(&mut machine, &mut memory, 10);
-        assert_eq!(ended, RunResult { outcome: RunOutcome::Halted, count: 1 });
+        assert_eq!(run(&mut machine, &mut memory, 10), ended(RunOutcome::Halted, 1));
         assert_eq!(machine.note, note);
     }
 }

@@ -98,9 +98,9 @@ returns-14 c =
     branch-arm (m .args .h) (search needs) 13 (lit< tt) byte (m .args .k) _ _ _ (ap not (c .before .before .is-greater2 .ensures) ∙ not-greater (flagsIn (m .args .k) .z) (Bool·beq (flagsIn (m .args .k) .n) (flagsIn (m .args .k) .v))) (c .before .branch14 .ensures) (c .completed14 .ensures)
 
 returns-15 : tie.Need-returns-15
-returns-15 c regs memory whole =
+returns-15 c =
     let m = c .before .before .before in
-    none (branchElse (m .args .h)) regs memory _ _ (is-none (m .args .h) (search needs) (c .before .before .bits .result) (c .before .before .bits .ensures) (c .before .match .rest)) (c .stopped .ensures) whole
+    none (branchElse (m .args .h)) _ _ (is-none (m .args .h) (search needs) (c .before .before .bits .result) (c .before .before .bits .ensures) (c .before .match .rest)) (c .stopped .ensures)
 
 pub execute-branch-spec : {M : Type 1} → statement M
 execute-branch-spec =

@@ -1,18 +1,23 @@
 -- The byte at the address goes to Rd.
 use native.Mathlib.Omega.{arith}
 use Rattle.units.specs.Field.{field}
-use Rattle.cpu.specs.Step.{ldrbOf}
-use Rattle.cpu.proofs.Ends.{low-is}
+use Rattle.cpu.proofs.Access.{ldrb-completes}
 use borrow.Author.Needs.{needs}
 use Rattle.cpu.proofs.instructions.ldrb.Statement.{statement}
 use Rattle.cpu.proofs.instructions.ldrb.Tie as tie
 
 returns : tie.Need-returns
-unfolding ldrbOf
 returns c =
-    let m = c .before .before .before .before .before .before .before .before in
-    simp (low-is (m .args .regs .now) (m .args .k .pc) (m .pre .0) (field (m .args .h) 3 3) (omega arith))
-    (simp (c .before .bits2 .ensures, c .before .before .before .load-byte .ensures, c .before .before .before .before .effective-address .ensures, c .before .before .before .before .before .bits .ensures) at (c .write-low .ensures))
+    let rd = c .before .before .bits2 in
+    let logged = c .before .before .before .before in
+    let loaded = logged .before .before in
+    let addressed = loaded .before in
+    let offset = addressed .before .bits in
+    let m = addressed .before .before .before .before in
+    simp (offset .ensures, rd .ensures) at
+    (ldrb-completes (m .args .regs .now) (m .args .memory .now) (m .args .log .now) (m .args .k) (m .args .step) (offset .result) (field (m .args .h) 3 3) (rd .result)
+    _ (c .completed .result) (m .pre .0) (omega arith) (addressed .effective-address .ensures) _ _ (c .before .write-low .result) _
+    (c .completed .ensures) (logged .put-access .ensures) (loaded .load-byte .ensures) (c .before .write-low .ensures))
 
 pub ldrb-spec : {M : Type 1} → statement M
 ldrb-spec =
@@ -22,6 +27,8 @@ ldrb-spec =
     (λ c. search needs)
     (λ c κs. search needs)
     (λ c. search needs)
+    (λ c κs. search needs)
+    (λ c κs. search needs)
     (λ c κs. search needs)
     (λ c κs. search needs)
     (λ c κs. search needs)

@@ -1,16 +1,16 @@
 -- The number and count of what `run` answers.
-use mathlib.Core.Path.{ap, _∙_}
-use Prim.Native.Nat.{ℕ, _+_, _*_}
+use Rattle.endings.proofs.Numbers.{run-number}
 use borrow.Author.Needs.{needs}
-use Rattle.endings.specs.Endings.{numbered, numberedRun}
 use Rattle.endings.proofs.run.run_numbered.Statement.{statement}
 use Rattle.endings.proofs.run.run_numbered.Tie as tie
 
 returns : tie.Need-returns
 returns c =
-    ap
-    (λ (n : ℕ). numbered (c .before .before .before .before .before .run .result .machine) (c .before .before .before .before .before .run .last .1 .0) (n + c .before .before .before .before .before .run .result .count * 4294967296))
-    (c .before .run-number .ensures .0) ∙ ap numberedRun (c .before .before .before .before .before .run .ensures)
+    let told = c .before in
+    let ended = told .before in
+    let ran = ended .before .before .before .before .run in
+    run-number (ran .result .machine) (ran .last .1 .0) _ _ _ _ (told .with-traffic .ensures) (ran .ensures .1) _ (ran .result .count) _ (ended .run-number .ensures)
+    (ran .ensures .0)
 
 pub run-numbered-spec : {M : Type 1} → statement M
 run-numbered-spec =
@@ -18,6 +18,8 @@ run-numbered-spec =
     (tie.spec
     (λ c κs. search needs)
     (λ c κs. search needs)
+    (λ c κs. search needs)
+    (λ c. search needs)
     (λ c. search needs)
     (λ c. search needs)
     (λ c. search needs)

@@ -1,21 +1,21 @@
 -- The number of what `step_value` answers.
-use mathlib.Core.Path.{ap, _∙_}
-use Prim.Native.Nat.{ℕ}
+use Rattle.endings.proofs.Numbers.{step-number}
 use borrow.Author.Needs.{needs}
-use Rattle.endings.specs.Endings.{numbered, numberedStep}
 use Rattle.endings.proofs.step.step_numbered.Statement.{statement}
 use Rattle.endings.proofs.step.step_numbered.Tie as tie
 
 returns : tie.Need-returns
 returns c =
-    let step-value = c .before .before .before .before .step-value in
-    ap (λ (n : ℕ). numbered (step-value .result .machine) (step-value .last .1 .0) n) (c .outcome-number .ensures) ∙ ap numberedStep
-    (step-value .ensures)
+    let ended = c .before in
+    let stepped = ended .before .before .before .before .step-value in
+    step-number (stepped .result .machine) (stepped .last .1 .0) _ _ _ _ (c .with-traffic .ensures) (stepped .ensures .1) _ _ (ended .outcome-number .ensures)
+    (stepped .ensures .0)
 
 pub step-numbered-spec : {M : Type 1} → statement M
 step-numbered-spec =
     tie.close
     (tie.spec
+    (λ c κs. search needs)
     (λ c κs. search needs)
     (λ c κs. search needs)
     (λ c. search needs)

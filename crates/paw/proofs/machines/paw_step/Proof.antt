@@ -43,6 +43,7 @@ use denote.Triple.Walked.{says, Stays, stay-ref, gave-slice, walkOf, goes-ref, g
 use denote.Signature.{plain}
 use Rattle.cpu.specs.declared.machine.Machine.{Machine}
 use Rattle.cpu.specs.Step.{stepOf}
+use Rattle.cpu.specs.Traffic.{stepTraffic}
 use Rattle.endings.specs.declared.step.AfterStep.{AfterStep}
 use Rattle.endings.specs.Endings.{numbered, numberedStep}
 use Rattle.cpu.proofs.machine.Machine as T
@@ -107,7 +108,7 @@ module _ {M : Type 1} (𝓤 : URA M) (H : Heap 𝓤) (A : Atoms 𝓤) (W : Given
       qed W ((‵ (flft κ′ q′) ⊛ ‵ ftrue) ∷ ‵ (R .own h (mach h ∷ [])) ∷ ‵ (owns (MutSlice (named 1) κ′ u8 ∷ []) (x, tt) (s ∷ [], tt)) ∷ []) ∵
       move ! (1 ∷ 2 ∷ []) $ fjoin ! $ move ! (1 ∷ 0 ∷ []) $ join ! $ frame ! $ done !
 
-  exits : (r : AfterStep) (w : Val) → Is S.the-row r (w ∷ []) → (zs : List ℕ) → numbered (r .machine) zs (r .number) ≡ numberedStep (stepOf h ys) → length zs ≡ length ys
+  exits : (r : AfterStep) (w : Val) → Is S.the-row r (w ∷ []) → (zs : List ℕ) → numbered (r .machine) zs (r .number) ≡ numberedStep (stepOf h ys) (stepTraffic h ys) → length zs ≡ length ys
       → ent 𝓤 (⋆ 𝓤 H A (‵ (fobs γ (R .coded .code (r .machine))) ∷ ‵ (fbor κ (Body (mem R) b o γ)) ∷ ‵ (flft κ q) ∷ (‵ (flft κ′ q′) ⊛ ‵ ftrue) ∷ ‵ (finally u8 γ′ zs) ∷ [])) (Post (vint w32 (r .number)))
   exits r w is zs e l =
       qed W (‵ (fobs γ (R .coded .code (r .machine))) ∷ ‵ (fbor κ (Body (mem R) b o γ)) ∷ ‵ (flft κ q) ∷ (‵ (flft κ′ q′) ⊛ ‵ ftrue) ∷ ‵ (finally u8 γ′ zs) ∷ []) ∵
@@ -132,8 +133,8 @@ module _ {M : Type 1} (𝓤 : URA M) (H : Heap 𝓤) (A : Atoms 𝓤) (W : Given
         move ! (5 ∷ 1 ∷ 6 ∷ []) $ use3 W (raw (Core 𝓤 H A at-mem run .pre to-core)) goes $
         calls-at ! fm (Core 𝓤 H A at-mem run) known to-core (and-then ! (load ! (from ! (stop !)) (look ! 9 refl)) (and-then ! (load ! (from ! (stop !)) (look ! 5 refl)) (no-more !))) (λ w.
         use1 W (later (some (λ (r : AfterStep). ((‵ (flft κ′ q′) ⊛ ‵ ftrue) ⊛ ‵ (S.the-row .own r (w ∷ []))) ⊛ raw (ensured 𝓤 H A core.ended (core.clauses 𝓤 H A at-mem run) (κ′, tt) (h, (x, tt)) tt r)))) (id⊢ 𝓤 _) $ await ! tt $ pick ! (λ r.
-        split ! $ move ! (1 ∷ []) $ use1 W (some (λ (zs : Unit {0} × (List ℕ × Unit {0})). ‵ (lasts core.ended (κ′, tt) (h, (x, tt)) zs) ⊛ raw (fact 𝓤 (numbered (r .machine) (zs .1 .0) (r .number) ≡ numberedStep (stepOf h ys))))) (id⊢ 𝓤 _) $ pick ! (λ zs.
-        split ! $ move ! (1 ∷ []) $ heard ! (numbered (r .machine) (zs .1 .0) (r .number) ≡ numberedStep (stepOf h ys)) (λ e. fsplit ! $ move ! (1 ∷ []) $ fsplit ! $ fsplit ! $ move ! (1 ∷ []) $ feqL ! (λ l.
+        split ! $ move ! (1 ∷ []) $ use1 W (some (λ (zs : Unit {0} × (List ℕ × Unit {0})). ‵ (lasts core.ended (κ′, tt) (h, (x, tt)) zs) ⊛ raw (fact 𝓤 (numbered (r .machine) (zs .1 .0) (r .number) ≡ numberedStep (stepOf h ys) (stepTraffic h ys))))) (id⊢ 𝓤 _) $ pick ! (λ zs.
+        split ! $ move ! (1 ∷ []) $ heard ! (numbered (r .machine) (zs .1 .0) (r .number) ≡ numberedStep (stepOf h ys) (stepTraffic h ys)) (λ e. fsplit ! $ move ! (1 ∷ []) $ fsplit ! $ fsplit ! $ move ! (1 ∷ []) $ feqL ! (λ l.
         -- [the last list; true; true; the token and the result; the cell; the open borrow; obs; auth; _6; …]
         move ! (3 ∷ []) $ split ! $ move ! (1 ∷ []) $ peeks ! S.the-row (Is S.the-row) (shows 𝓤 H A S.the-row) r (w ∷ []) (λ is.
         land ! (from ! (stop !)) (init ! 15 refl (LL.lawful S.the-type S′.the-laws 𝓤 H A W .typed r _ is .0)) $

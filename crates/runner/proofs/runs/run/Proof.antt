@@ -1,11 +1,17 @@
 -- What the registers and flags come to, with the note put in.
 use Rattle.runner.proofs.Noted.{run-left}
+use Rattle.runner.proofs.Traffic.{told-left}
 use borrow.Author.Needs.{needs}
 use Rattle.runner.proofs.runs.run.Statement.{statement}
 use Rattle.runner.proofs.runs.run.Tie as tie
 
 returns : tie.Need-returns
-returns c = rw (c .note-left .ensures) (run-left _ _ _ _ (c .before .before .before .before .before .run-lent .ensures))
+returns c =
+    let noted = c .before .before in
+    let ran = noted .before .before .before .before .before .run-lent in (
+      rw (noted .note-left .ensures) (run-left _ _ _ _ (ran .ensures .0)),
+      told-left _ _ _ _ _ (c .last-traffic .ensures) (ran .ensures .1),
+    )
 
 pub run-spec : {M : Type 1} → statement M
 run-spec =
@@ -13,6 +19,7 @@ run-spec =
     (tie.spec
     (λ c κs. search needs)
     (λ c. search needs)
+    (λ c κs. search needs)
     (λ c κs. search needs)
     (λ c. search needs)
     returns)
