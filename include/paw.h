@@ -30,10 +30,10 @@ extern "C" {
 
 /* The version of this header; paw_version tells that of the library. */
 #define PAW_VERSION_MAJOR 0
-#define PAW_VERSION_MINOR 3
+#define PAW_VERSION_MINOR 4
 #define PAW_VERSION_PATCH 0
 
-/* The version as one number, larger for a later one, and as text, "0.3.0". */
+/* The version as one number, larger for a later one, and as text, "0.4.0". */
 #define PAW_VERSION (PAW_VERSION_MAJOR * 65536u + PAW_VERSION_MINOR * 256u + PAW_VERSION_PATCH)
 #define PAW_VERSION_STRING                                                                         \
     PAW_QUOTE(PAW_VERSION_MAJOR) "." PAW_QUOTE(PAW_VERSION_MINOR) "." PAW_QUOTE(PAW_VERSION_PATCH)
@@ -41,9 +41,10 @@ extern "C" {
 #define PAW_QUOTE_AS_IS(text) #text
 
 enum {
-    PAW_MEMORY_BYTES = 65536, /* the whole address space */
-    PAW_BLOCK_BYTES = 512,    /* a block of an image */
-    PAW_BLOCK_CODE = 249,     /* code halfwords that a block has room for */
+    PAW_MEMORY_BYTES = 65536,  /* the whole address space */
+    PAW_BLOCK_BYTES = 512,     /* a block of an image */
+    PAW_BLOCK_HALFWORDS = 256, /* the same, as halfwords; the low byte of each comes first */
+    PAW_BLOCK_CODE = 249,      /* code halfwords that a block has room for */
     PAW_MAX_BLOCKS = 64,
     PAW_MAX_CODE = 15936 /* code halfwords of an image: 64 times 249 */
 };
@@ -443,6 +444,20 @@ static inline uint16_t paw_answer_window_bytes(uint64_t answer)
 {
     return (uint16_t)(answer >> 48);
 }
+
+/*
+ * Answers the sum so far of a block's halfwords, which is 0 before the first call, with one
+ * halfword more, modulo 65,536. It is for drivers that get a block's last halfword first:
+ *
+ *     uint16_t sum = 0;
+ *     for (size_t n = PAW_BLOCK_HALFWORDS; n-- > 0;)
+ *         sum = paw_add_to_sum(sum, next_halfword());
+ *
+ * After the call for halfword n the sum is that of halfwords n to 255. A block passes check 4
+ * exactly if it is 0 after the call for halfword 0; the other checks are paw_check's to put. The
+ * caller counts the calls: each is answered from its two arguments alone.
+ */
+uint16_t paw_add_to_sum(uint16_t sum, uint16_t halfword);
 
 /*
  * Puts checks 2 to 8 to an image file, then answers what a reader of it gives at its call number

@@ -1,7 +1,7 @@
 /*
  * The library as firmware uses it, through paw.h: the sample program P is packed, checked,
- * verified, loaded and run, programs say by notes how they ended, and steps and runs what data they
- * touched. It is C11 and C++11 at once.
+ * summed, verified, loaded and run, programs say by notes how they ended, and steps and runs what
+ * data they touched. It is C11 and C++11 at once.
  *
  *     cc -std=c11 -Wall -Wextra -Werror -Iinclude tests/firmware.c target/staticlib/libpaw.a
  */
@@ -259,6 +259,47 @@ static void test_checking(void)
     EXPECT(paw_answer_window_start(answer) == WINDOW_START);
     EXPECT(paw_answer_window_bytes(answer) == WINDOW_BYTES);
     EXPECT(paw_check(file, sizeof file - 1) == PAW_FILE_LENGTH);
+}
+
+/* The sum of halfwords n to 255 of a block, plainly. */
+static uint32_t plain_sum(const uint8_t *block, size_t n)
+{
+    uint32_t sum = 0;
+    for (size_t at = 2 * n; at < PAW_BLOCK_BYTES; at += 2) {
+        sum += (uint32_t)(block[at] | block[at + 1] << 8);
+    }
+    return sum;
+}
+
+/* Sums a block from the back; after each call the sum is that of the halfwords so far. */
+static uint16_t sum_from_back(const uint8_t *block)
+{
+    uint16_t sum = 0;
+    for (size_t n = PAW_BLOCK_HALFWORDS; n-- > 0;) {
+        sum = paw_add_to_sum(sum, (uint16_t)(block[2 * n] | block[2 * n + 1] << 8));
+        EXPECT(sum == plain_sum(block, n) % 65536);
+    }
+    return sum;
+}
+
+/* P's block, the same with each byte damaged in turn, and one whose sum wraps time and again. */
+static void test_summing(void)
+{
+    EXPECT(PAW_BLOCK_HALFWORDS * 2 == PAW_BLOCK_BYTES);
+    EXPECT(paw_add_to_sum(0, 0) == 0 && paw_add_to_sum(0xFFFF, 1) == 0);
+    EXPECT(paw_add_to_sum(0xFFFF, 0xFFFF) == 0xFFFE);
+    EXPECT(paw_add_to_sum(0, 0xC090) == 0xC090); /* the last halfword of P's block */
+    EXPECT(sum_from_back(file) == 0);
+    for (size_t at = 0; at < sizeof file; at++) {
+        file[at] ^= 0x80;
+        EXPECT(sum_from_back(file) != 0);
+        uint64_t answer = paw_check(file, sizeof file);
+        EXPECT(paw_answer_number(answer) == (at < 2 ? PAW_BLOCK_MARK : PAW_BLOCK_SUM));
+        file[at] ^= 0x80;
+    }
+    static uint8_t full[PAW_BLOCK_BYTES];
+    memset(full, 0xFF, sizeof full);
+    EXPECT(sum_from_back(full) == 65536 - 256);
 }
 
 /* A reader's three answers: a block, none left, refused. */
@@ -682,6 +723,7 @@ int main(void)
     test_defined();
     test_packing();
     test_checking();
+    test_summing();
     test_reading();
     test_verifying();
     test_verifying_notes();

@@ -1,4 +1,4 @@
-# What tests/launcher and tests/install share: one line a check, counted. To be sourced.
+# What tests/launcher, tests/install and tests/examples share: one line a check, counted. To be sourced.
 # shellcheck shell=bash
 unset CDPATH DESTDIR
 cd "$(dirname "${BASH_SOURCE[0]}")/.." || exit 2

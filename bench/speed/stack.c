@@ -93,6 +93,11 @@ static void pack(size_t maker)
     answer = makers[maker].pack(image->code, n, image->w, image->l, out, image->len);
 }
 
+static void add_to_sum(size_t maker)
+{
+    answer = paw_add_to_sum(halfword, (uint16_t)maker);
+}
+
 static void run(size_t maker)
 {
     answer = engines[maker].run(&machine, memory, sizeof memory, 2);
@@ -159,11 +164,17 @@ static void print_functions(void)
         const char *name;
         void (*call)(size_t);
     } functions[] = {
-        { "paw_load", load },     { "paw_verify", verify },
-        { "paw_check", check },   { "paw_block", block },
-        { "paw_pack", pack },     { "paw_run", run },
-        { "paw_step", step },     { "paw_encode", encode },
-        { "paw_decode", decode }, { "paw_manual_date", manual_date },
+        { "paw_load", load },
+        { "paw_verify", verify },
+        { "paw_check", check },
+        { "paw_block", block },
+        { "paw_pack", pack },
+        { "paw_add_to_sum", add_to_sum },
+        { "paw_run", run },
+        { "paw_step", step },
+        { "paw_encode", encode },
+        { "paw_decode", decode },
+        { "paw_manual_date", manual_date },
         { "paw_version", version },
     };
     printf("| function | bytes of stack |\n|---|---|\n");

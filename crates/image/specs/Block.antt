@@ -1,9 +1,9 @@
 -- A block of a file and its fields ("Image blocks", the table).
 use mathlib.Core.List.{List}
-use Prim.Native.Nat.{ℕ, zero, suc, _+_, _*_, _/_}
+use Prim.Native.Nat.{ℕ, _+_, _*_, _/_}
 use lib.ListN.{length, take, drop}
-use Rattle.units.specs.Address.{wrap}
 use Rattle.units.specs.Bytes.{halfwordAt}
+use Rattle.sums.specs.Sum.{sumBelow}
 use Rattle.image.specs.Format.{blockBytes, blockHalfwords, headerHalfwords}
 
 -- how many blocks a file has, and block k's bytes
@@ -39,15 +39,6 @@ countOf block = halfword block 5
 -- from 6: the code
 abbrev pub codeHalfword : List ℕ → ℕ → ℕ
 codeHalfword block i = halfword block (headerHalfwords + i)
-
--- one halfword more in a sum
-abbrev pub addedTo : ℕ → ℕ → ℕ
-addedTo sum h = wrap (sum + h)
-
--- the sum of h 0 to h (n - 1), modulo 65,536
-unfoldable pub sumBelow : (ℕ → ℕ) → ℕ → ℕ
-sumBelow h zero = 0
-sumBelow h (suc n) = addedTo (sumBelow h n) (h n)
 
 -- the sum of a whole block
 abbrev pub sumOf : List ℕ → ℕ

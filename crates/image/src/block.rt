@@ -1,12 +1,13 @@
 // A block of a file: its bytes, its fields and its sum.
 use super::format::BLOCK_BYTES;
 use super::format::BLOCK_HALFWORDS;
+use sums::add_to_sum;
 use units::halfword_at;
 ghost use mathlib.Core.Path.{_≡_};
 ghost use Prim.Native.Nat.{_+_, _*_, _<_, _≤_};
 ghost use lib.ListN.{length};
 ghost use Rattle.image.specs.Format.{blockBytes, blockHalfwords};
-ghost use Rattle.image.specs.Block.{blockOf, halfword, addedTo, sumOf};
+ghost use Rattle.image.specs.Block.{blockOf, halfword, sumOf};
 
 // The bytes of block `k`.
 pub(crate) fn block_part(file: &[u8], k: usize) -> &[u8]
@@ -26,24 +27,17 @@ pub(crate) fn field(block: &[u8], j: usize) -> u16
     halfword_at(block, 2 * j)
 }
 
-// One halfword more in the sum of a block. Sums wrap, so the halfwords may come
-// in any order.
-fn add_to_sum(sum: u16, h: u16) -> u16
-    ensures { λ r. ⌜ r ≡ addedTo sum h ⌝ }
-{
-    std::num::wrapping_add_u16(sum, h)
-}
-
-// The sum of a block's halfwords.
+// The sum of a block's halfwords, the last halfword first, as a driver delivers
+// them.
 pub(crate) fn block_sum(block: &[u8]) -> u16
     requires { ⌜ length (now block) ≡ blockBytes ⌝ }
     ensures { λ r. ⌜ r ≡ sumOf (now (block .entry)) ⌝ }
 {
     let mut sum = 0;
-    let mut j = 0;
-    while j < BLOCK_HALFWORDS {
+    let mut j = BLOCK_HALFWORDS;
+    while 0 < j {
+        j -= 1;
         sum = add_to_sum(sum, field(block, j));
-        j += 1;
     }
     sum
 }

@@ -12,21 +12,23 @@ use lib.ListN.{length, getD, List·getD-eq-default}
 use lib.Seq.{ext-getD}
 use Rattle.units.proofs.Halves.{low-byte, high-byte}
 use Rattle.units.specs.Bytes.{halfwordAt, byteOf}
+use Rattle.sums.specs.Sum.{sumBelow}
 use Rattle.image.specs.Format.{blockBytes, blockHalfwords, blockCode, headerHalfwords}
-use Rattle.image.specs.Block.{blocksIn, blockOf, halfword, usedOf, codeHalfword, windowStartOf, windowLengthOf, sumBelow, sumOf}
+use Rattle.image.specs.Block.{blocksIn, blockOf, halfword, usedOf, codeHalfword, windowStartOf, windowLengthOf, sumOf}
 use Rattle.image.specs.Code.{codeAt, codeLength, codeOf}
 use Rattle.image.specs.Check.{firstNo, check3, check4, check5, check6, check7, usedRight, unusedZero, blockChecks, layoutOf, checkOf}
 use Rattle.packer.specs.Pack.{blocksNeeded, usedIn, headerOf, bodyHalfword, balanceOf, imageHalfword, imageOf}
 use Rattle.image.specs.declared.answer.Answer.the-variants.{Pass}
 use Rattle.image.specs.declared.checker.Layout.{Layout}
 use Rattle.image.specs.declared.checker.Checked.the-variants.{Valid}
+use Rattle.sums.proofs.Sums.{sum-same}
 use Rattle.image.proofs.Answers.{head-passed, tail-passed}
 use Rattle.image.proofs.Verdicts.{and-left, and-right, passed6, used-right}
 use Rattle.image.proofs.Blocks.{block-halfword}
 use Rattle.packer.proofs.Images.{image-length, image-at, balance-is, balance-at, body-at}
 use Rattle.image.proofs.Valid.{code-length, code-halfword, valid-layout, valid-size, valid-block, last-used}
 use Rattle.image_laws.specs.Claims.{Bytes}
-use Rattle.image_laws.proofs.Halves.{lt-or-ge, half-less, even-place, odd-place, sum-same, unused-each}
+use Rattle.image_laws.proofs.Halves.{lt-or-ge, half-less, even-place, odd-place, unused-each}
 
 -- a count that is right for its place: the last block's, or a full block's
 used-full : (isLast : Bool) (used : ℕ) → isLast ≡ false → usedRight isLast used ≡ true → used ≡ blockCode

@@ -7,8 +7,9 @@ use borrow.Author.Tests.{leb-true, le-leb, eq-eqb}
 use lib.Dec.{leb}
 use lib.ListN.{length}
 use Rattle.units.specs.Bytes.{byteOf}
+use Rattle.sums.specs.Sum.{sumBelow}
 use Rattle.image.specs.Format.{tabulateFrom}
-use Rattle.image.specs.Block.{blockOf, sumBelow}
+use Rattle.image.specs.Block.{blockOf}
 use Rattle.image.specs.Code.{codeAt, codeLength, codeOf}
 use Rattle.image.specs.Check.{firstNo, check2, check3, check4, check5, check6, check7, check8, unusedZero, rowsBelow, layoutOf, checkOf}
 use Rattle.packer.specs.Pack.{bodyHalfword, balanceOf, imageHalfword, imageOf, check15, check16, blocksNeeded, packChecks, packedAs, packOf, outputAs, outputOf}

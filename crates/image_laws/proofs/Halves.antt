@@ -1,4 +1,4 @@
--- Sums, unused halfwords and places, without a word of images.
+-- Unused halfwords, places and what balances a sum, without a word of images.
 use mathlib.Core.Bool.{Bool, true, false, _&&_}
 use mathlib.Core.Logic.{_⊎_, inl, inr, ⊎-elim}
 use mathlib.Core.Path.{_≡_, refl, ap, ap₂, _∙_}
@@ -9,7 +9,7 @@ use native.Mathlib.Omega.{arith}
 use borrow.Author.Tests.{eq-eqb, eqb-true, ltb-true, ltb-false}
 use lib.Dec.{eqb, ltb}
 use Rattle.units.specs.Address.{wrap}
-use Rattle.image.specs.Block.{codeHalfword, addedTo, sumBelow}
+use Rattle.image.specs.Block.{codeHalfword}
 use Rattle.image.specs.Check.{unusedZero}
 use Rattle.image.proofs.Verdicts.{and-left, and-right}
 
@@ -19,12 +19,6 @@ lt-or-ge m n = go (ltb m n) refl
     go : (t : Bool) → ltb m n ≡ t → (m < n) ⊎ (n ≤ m)
     go true e = inl (ltb-true m n e)
     go false e = inr (ltb-false m n e)
-
--- the sums of the same halfwords
-pub sum-same : (f g : ℕ → ℕ) (n : ℕ) → ((j : ℕ) → j < n → f j ≡ g j) → sumBelow f n ≡ sumBelow g n
-unfolding sumBelow
-sum-same f g zero same = refl
-sum-same f g (suc n) same = ap₂ addedTo (sum-same f g n (λ j h. same j (omega arith))) (same n (omega arith))
 
 -- unused halfwords are 0, said of the row and of each
 pub unused-all : (block : List ℕ) (used n : ℕ) → ((m : ℕ) → m < n → codeHalfword block (used + m) ≡ 0) → unusedZero block used n ≡ true

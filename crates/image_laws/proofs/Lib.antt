@@ -2,4 +2,5 @@ pub mod Halves
 pub mod Made
 pub mod Accepted
 pub mod Reading
+pub mod Sums
 pub mod Claims

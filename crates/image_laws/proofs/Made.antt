@@ -13,20 +13,22 @@ use lib.Seq.{ext-getD}
 use Rattle.units.proofs.Halves.{rejoined}
 use Rattle.units.specs.Bytes.{halfwordAt}
 use Rattle.units.specs.Address.{wrap}
+use Rattle.sums.specs.Sum.{sumBelow}
 use Rattle.image.specs.Format.{blockHalfwords, blockCode, headerHalfwords, mostCode}
-use Rattle.image.specs.Block.{blocksIn, blockOf, halfword, usedOf, codeHalfword, sumBelow, sumOf}
+use Rattle.image.specs.Block.{blocksIn, blockOf, halfword, usedOf, codeHalfword, sumOf}
 use Rattle.image.specs.Code.{codeAt, codeLength, codeOf}
 use Rattle.image.specs.Check.{firstNo, check2, check3, check4, check5, check6, check7, check8, usedRight, unusedZero, blockChecks, checksBelow, layoutOf, checkedAs, checkOf}
 use Rattle.packer.specs.Pack.{blocksNeeded, usedIn, bodyHalfword, balanceOf, imageHalfword, imageOf}
 use Rattle.image.specs.declared.answer.Answer.the-variants.{Pass}
 use Rattle.image.specs.declared.checker.Checked.the-variants.{Valid}
+use Rattle.sums.proofs.Sums.{sum-less, sum-same}
 use Rattle.image.proofs.Blocks.{block-halfword}
 use Rattle.image.proofs.Answers.{passed-head, all-passed}
 use Rattle.image.proofs.Verdicts.{rest8}
-use Rattle.packer.proofs.Images.{image-length, image-low, image-high, body-code, body-at, balance-at, sum-less}
+use Rattle.packer.proofs.Images.{image-length, image-low, image-high, body-code, body-at, balance-at}
 use Rattle.image.proofs.Valid.{code-length, code-halfword}
 use Rattle.image_laws.specs.Claims.{layout}
-use Rattle.image_laws.proofs.Halves.{sum-same, unused-all, sum-back}
+use Rattle.image_laws.proofs.Halves.{unused-all, sum-back}
 
 -- the last block of n halfwords ends the code, and a block before it is full
 used-right : (n k : ℕ) → k < blocksNeeded n → usedRight (eqb (k + 1) (blocksNeeded n)) (usedIn n k) ≡ true

@@ -1,14 +1,17 @@
--- What is claimed of images as a whole ("Image blocks", "The questions", "Bench table").
+-- What is claimed of images as a whole ("Image blocks", "The questions", "Bench table"; Change 3).
 use mathlib.Core.Path.{_≡_}
 use mathlib.Core.List.{List, [], _∷_}
-use Prim.Native.Nat.{ℕ, zero, suc, _*_, _≤_, _<_}
+use Prim.Native.Nat.{ℕ, zero, suc, _-_, _*_, _≤_, _<_}
+use lib.Dec.{eqb}
 use lib.ListN.{length, getD}
 use denote.Ref.{RefT, now}
+use Rattle.units.specs.Address.{wrap}
 use Rattle.refusals.specs.declared.refusal.Refusal.{Refusal}
-use Rattle.image.specs.Format.{blockBytes}
-use Rattle.image.specs.Block.{blocksIn, blockOf, halfword}
+use Rattle.sums.specs.Sum.{sumDownTo, plainSum}
+use Rattle.image.specs.Format.{blockBytes, blockHalfwords}
+use Rattle.image.specs.Block.{blocksIn, blockOf, halfword, sumOf}
 use Rattle.image.specs.Code.{codeOf}
-use Rattle.image.specs.Check.{layoutOf, checkOf}
+use Rattle.image.specs.Check.{check4, layoutOf, checkOf}
 use Rattle.reader.specs.Reader.{givenOf, bytesOf, openOf, answerOf, nextOf, afterNext}
 use Rattle.packer.specs.Pack.{imageOf, packOf, outputOf}
 use Rattle.image.specs.declared.checker.Layout.{Layout}
@@ -35,6 +38,24 @@ abbrev pub CheckThenPack : Type 0
 CheckThenPack =
     (file : List ℕ) (c w l : ℕ) (out : List ℕ) → Bytes file → checkOf file ≡ Valid (layout c w l) → length out ≡ length file
     → (packOf (codeOf file) w l (length out) ≡ Done) × (outputOf (codeOf file) w l out ≡ file)
+
+-- the sum after the calls for halfwords 255 down to n of a block, the last halfword first
+abbrev pub sumFromBack : List ℕ → ℕ → ℕ
+sumFromBack block n = sumDownTo (halfword block) n (blockHalfwords - n)
+
+-- it is the sum of halfwords n to 255 modulo 65,536
+abbrev pub BackwardSum : Type 0
+BackwardSum =
+    (block : List ℕ) (n : ℕ) → n < blockHalfwords
+    → sumFromBack block n ≡ wrap (plainSum (halfword block) n (blockHalfwords - n))
+
+-- when all 256 are added, it is the sum that the check speaks of, whose calls come in the other order
+abbrev pub SameSum : Type 0
+SameSum = (block : List ℕ) → sumFromBack block 0 ≡ sumOf block
+
+-- so whoever sums a block from the back has the answer of check 4
+abbrev pub CheckByCalls : Type 0
+CheckByCalls = (block : List ℕ) → eqb (sumFromBack block 0) 0 ≡ check4 block
 
 -- the reader of a file that is lent, when it has been called n times
 unfoldable pub readerAfter : RefT (List ℕ) → ℕ → BlockReader

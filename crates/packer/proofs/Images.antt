@@ -1,25 +1,20 @@
 -- The image of a code, byte by byte.
 use mathlib.Core.Path.{_≡_, refl, sym, ap, ap₂, _∙_}
 use mathlib.Core.List.{List}
-use Prim.Native.Nat.{ℕ, zero, suc, _+_, _-_, _*_, _/_, _%_, _<_, _≤_}
+use Prim.Native.Nat.{ℕ, _+_, _-_, _*_, _/_, _%_, _<_, _≤_}
 use native.Mathlib.Numerals.{add-one}
 use native.Mathlib.Omega.{arith}
 use borrow.Author.Tests.{lt-ltb, le-ltb}
 use lib.ListN.{length, getD, take, List·getD-eq-default}
 use Rattle.units.specs.Bytes.{byteOf, withHalfword}
 use Rattle.units.specs.Address.{wrap}
+use Rattle.sums.specs.Sum.{addedTo, sumBelow}
 use Rattle.image.specs.Format.{blockBytes, blockHalfwords, blockCode, headerHalfwords}
-use Rattle.image.specs.Block.{addedTo, sumBelow}
 use Rattle.packer.specs.Pack.{blocksNeeded, headerOf, bodyHalfword, balanceOf, imageHalfword, imageByte, imageOf}
 use Rattle.packer.specs.Writing.{Room, Written, codeEnd}
+use Rattle.sums.proofs.Sums.{sum-less}
 use Rattle.image.proofs.Lists.{length-tabulate, tabulate-at}
 use Rattle.packer.proofs.Overwriting.{two-more}
-
--- a sum is below 65,536
-pub sum-less : (h : ℕ → ℕ) (n : ℕ) → sumBelow h n < 65536
-unfolding sumBelow
-sum-less h zero = omega arith
-sum-less h (suc n) = omega arith
 
 -- what brings a sum back to 0
 pub balanced : (r s : ℕ) → r < 65536 → s < 65536 → (r + s) % 65536 ≡ 0 → r ≡ wrap (65536 - s)

@@ -6,8 +6,8 @@ use lib.Dec.{eqb, leb, ltb}
 use lib.ListN.{length, getD}
 use Rattle.units.specs.Bytes.{byteOf}
 use Rattle.units.specs.Address.{wrap}
+use Rattle.sums.specs.Sum.{sumBelow}
 use Rattle.image.specs.Format.{mark, blockBytes, blockHalfwords, blockCode, headerHalfwords, mostCode, tabulate}
-use Rattle.image.specs.Block.{sumBelow}
 use Rattle.image.specs.Check.{Asked, whole, firstNo, check8}
 use Rattle.image.specs.declared.answer.Answer.{Answer}
 use Rattle.image.specs.declared.answer.Answer.the-variants.{Pass, Refused}

@@ -3,7 +3,7 @@ use mathlib.Core.List.{List}
 use mathlib.Core.Path.{_≡_}
 use Prim.Native.Nat.{ℕ, _+_, _*_, _≤_, _<_}
 use lib.ListN.{length, take}
-use Rattle.image.specs.Block.{sumBelow}
+use Rattle.sums.specs.Sum.{sumBelow}
 use Rattle.image.specs.Format.{blockBytes, headerHalfwords, mostCode}
 use Rattle.packer.specs.Pack.{blocksNeeded, usedIn, bodyHalfword, imageOf}
 

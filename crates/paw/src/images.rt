@@ -1,6 +1,7 @@
-// The C faces of the check, the block reader and the packer.
+// The C faces of the check, the sum of a block, the block reader and the packer.
 ghost use mathlib.Core.Path.{_≡_};
 ghost use lib.ListN.{length};
+ghost use Rattle.sums.specs.Sum.{addedTo};
 ghost use Rattle.image.specs.Check.{checkOf};
 ghost use Rattle.reader.specs.Reader.{givenOf};
 ghost use Rattle.packer.specs.Pack.{packOf, outputOf};
@@ -12,6 +13,14 @@ pub extern "C" fn paw_check(file: &[u8]) -> u64
     ensures { λ r. ⌜ r ≡ checkedWord (checkOf (now (file .entry))) ⌝ }
 {
     answers::checked_word(image::check(file))
+}
+
+// The sum so far of a block's halfwords, with one halfword more.
+#[no_mangle]
+pub extern "C" fn paw_add_to_sum(sum: u16, halfword: u16) -> u16
+    ensures { λ r. ⌜ r ≡ addedTo sum halfword ⌝ }
+{
+    sums::add_to_sum(sum, halfword)
 }
 
 // What the reader of a file answers to its call number `n`, from 0: the refusal

@@ -10,6 +10,7 @@ mod programs;
 mod version;
 
 pub use date::paw_manual_date;
+pub use images::paw_add_to_sum;
 pub use images::paw_block;
 pub use images::paw_check;
 pub use images::paw_pack;

@@ -8,7 +8,8 @@ use Rattle.cpu.specs.declared.machine.Machine.{Machine}
 use Rattle.cpu.specs.Step.{completed, executeOf, executeDecoded, fetched, stepOf, addHighOf, addPcOf, asrOf, cmpImmOf, negOf}
 use Rattle.cpu_laws.proofs.Steps.{step-decoded}
 use Rattle.cpu.specs.Machine.{pc}
-use Rattle.image.specs.Block.{blockOf, sumBelow}
+use Rattle.sums.specs.Sum.{sumBelow}
+use Rattle.image.specs.Block.{blockOf}
 use Rattle.image.specs.Check.{firstNo, check2, check3, check4, check5, unusedZero, check6, check7, check8, rowsBelow, layoutOf, checkOf}
 use Rattle.image.specs.Code.{codeAt, codeLength, codeOf}
 use Rattle.image.specs.Format.{tabulateFrom}

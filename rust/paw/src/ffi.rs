@@ -16,6 +16,7 @@ unsafe extern "C" {
     fn paw_load(file: *const u8, len: usize, memory: *mut u8, memory_len: usize) -> u64;
     fn paw_pack(code: *const u16, len: usize, w: u16, l: u16, out: *mut u8, out_len: usize) -> u32;
     fn paw_block(file: *const u8, len: usize, n: usize) -> u64;
+    fn paw_add_to_sum(sum: u16, halfword: u16) -> u16;
 }
 
 pub fn version() -> u32 {
@@ -74,4 +75,9 @@ pub fn pack(code: &[u16], w: u16, l: u16, out: &mut [u8]) -> u32 {
 pub fn block(file: &[u8], n: usize) -> u64 {
     // SAFETY: the file is borrowed for the call and only read, and the length is its own.
     unsafe { paw_block(file.as_ptr(), file.len(), n) }
+}
+
+pub fn add_to_sum(sum: u16, halfword: u16) -> u16 {
+    // SAFETY: takes two numbers and answers a number, for all numbers.
+    unsafe { paw_add_to_sum(sum, halfword) }
 }

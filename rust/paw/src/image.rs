@@ -1,4 +1,4 @@
-//! Image files: checking them, reading their blocks, packing them.
+//! Image files: checking them, reading their blocks, packing them, summing blocks on their way.
 
 use core::iter::FusedIterator;
 use core::ops::Range;
@@ -6,8 +6,10 @@ use core::slice::ChunksExact;
 
 use crate::{Refusal, ffi};
 
+/// Halfwords in a block.
+pub const BLOCK_HALFWORDS: usize = 256;
 /// Bytes in a block.
-pub const BLOCK_BYTES: usize = 512;
+pub const BLOCK_BYTES: usize = 2 * BLOCK_HALFWORDS;
 /// Code halfwords that a block has room for.
 pub const BLOCK_CODE: usize = 249;
 /// Most blocks that an image may have.
@@ -154,4 +156,44 @@ pub fn pack(code: &[u16], w: u16, l: u16, out: &mut [u8]) -> Result<(), Refusal>
         number @ 1..=255 => Err(Refusal::from_numbers(number as u8, 0)),
         number => panic!("libpaw.a answers the packer with {number}"),
     }
+}
+
+/// The sum so far of a block, which is 0 before the first call, with one halfword more, modulo
+/// 65,536.
+///
+/// It is made for a driver that delivers a block's last halfword first. After the call for
+/// halfword `n` it is the sum of halfwords `n` to 255, and a block passes check 4 exactly if it is
+/// 0 after halfword 0. The function has no state: the caller counts the halfwords.
+///
+/// ```
+/// let mut file = [0; paw::image_bytes(1)];
+/// paw::pack(&[0x0000], 256, 64, &mut file)?; // HALT
+/// let mut bus = file.chunks_exact(2).rev().map(|pair| u16::from_le_bytes([pair[0], pair[1]]));
+///
+/// let mut block = [0; paw::BLOCK_BYTES];
+/// let mut sum = 0;
+/// for n in (0..paw::BLOCK_HALFWORDS).rev() {
+///     let halfword = bus.next().unwrap();
+///     block[2 * n..2 * n + 2].copy_from_slice(&halfword.to_le_bytes());
+///     sum = paw::add_to_sum(sum, halfword);
+/// }
+/// assert_eq!(sum, 0);
+/// assert_eq!(block, file);
+/// # Ok::<(), paw::Refusal>(())
+/// ```
+///
+/// A damaged halfword leaves another sum:
+///
+/// ```
+/// # let mut file = [0; paw::image_bytes(1)];
+/// # paw::pack(&[0x0000], 256, 64, &mut file)?; // HALT
+/// file[200] ^= 1;
+/// let bus = file.chunks_exact(2).rev().map(|pair| u16::from_le_bytes([pair[0], pair[1]]));
+/// assert_ne!(bus.fold(0, paw::add_to_sum), 0);
+/// assert_eq!(paw::check(&file).unwrap_err().check, paw::Check::BlockSum);
+/// # Ok::<(), paw::Refusal>(())
+/// ```
+#[must_use]
+pub fn add_to_sum(sum: u16, halfword: u16) -> u16 {
+    ffi::add_to_sum(sum, halfword)
 }

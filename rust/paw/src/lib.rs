@@ -13,7 +13,8 @@
 //! [`verify`] decides whether it can be run without harm, [`load`] puts it into memory if so, and
 //! [`run`] runs it. A program that ends by HALT may say why in a byte, which [`Machine::note`] then
 //! holds. Each completed step tells as [`Traffic`] which data it touched, and a run what its last
-//! one told.
+//! one told. A driver that delivers a block's last halfword first sums the block on the way with
+//! [`add_to_sum`].
 //!
 //! ```
 //! use paw::{Condition, Instruction, Machine, RunOutcome, Traffic};
@@ -66,8 +67,8 @@ pub use condition::Condition;
 pub use cpu::{MEMORY_BYTES, Machine, PC, Run, RunOutcome, StepOutcome, Stop, run, step};
 pub use date::{ManualDate, manual_date};
 pub use image::{
-    BLOCK_BYTES, BLOCK_CODE, BlockReader, Layout, MAX_BLOCKS, MAX_CODE, block, check, image_bytes,
-    pack,
+    BLOCK_BYTES, BLOCK_CODE, BLOCK_HALFWORDS, BlockReader, Layout, MAX_BLOCKS, MAX_CODE,
+    add_to_sum, block, check, image_bytes, pack,
 };
 pub use instruction::{Instruction, decode, encode};
 pub use loader::load;

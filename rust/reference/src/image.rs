@@ -93,7 +93,7 @@ fn check_block(
         usize::from(field(NUMBER_FIELD)) == number && usize::from(field(BLOCKS_FIELD)) == blocks;
     let answers = [
         (BLOCK_MARK, field(MARK_FIELD) == MARK),
-        (BLOCK_SUM, sum(block) == 0),
+        (BLOCK_SUM, sum_from(block, 0) == 0),
         (BLOCK_NUMBER, tells_position),
         (BLOCK_USE, is_well_filled(block, used, is_last)),
         (BLOCK_WINDOW, (field(WINDOW_START_FIELD), field(WINDOW_LENGTH_FIELD)) == window),
@@ -104,9 +104,13 @@ fn check_block(
     }
 }
 
-/// The wrapping sum of all halfwords.
-fn sum(bytes: &[u8]) -> u16 {
-    halfwords(bytes).fold(0, u16::wrapping_add)
+/// The sum modulo 65,536 of halfwords `n` to 255 of a block.
+///
+/// A plain sum in a type that has room for it, reduced once at the end, so that it shares no step
+/// with an engine that wraps at each addition.
+pub fn sum_from(block: &[u8], n: usize) -> u16 {
+    let plain: u32 = halfwords(&block[2 * n..BLOCK_BYTES]).map(u32::from).sum();
+    (plain % 65_536) as u16
 }
 
 /// Whether a block is full, or the last and not empty, with zeros behind its code.
@@ -216,7 +220,7 @@ fn pack_block(header: &[u16; CODE_FIELD], part: &[u16], block: &mut [u8]) {
 /// Sets the last halfword of a block so that the block sums to zero.
 pub fn mend_sum(block: &mut [u8]) {
     set_halfword(block, SUM_FIELD, 0);
-    let rest = sum(block);
+    let rest = sum_from(block, 0);
     set_halfword(block, SUM_FIELD, rest.wrapping_neg());
 }
 

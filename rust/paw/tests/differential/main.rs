@@ -1,7 +1,8 @@
 //! The proved library, through the safe wrapper, against the reference engine.
 //!
 //! One test program keeps the link time low. `PAW_LONG=1` in the environment makes the random
-//! tests twenty times longer, and lets two runs spend the largest budget.
+//! tests twenty times longer, lets two runs spend the largest budget, and adds every halfword to
+//! every sum.
 
 mod face;
 mod images;
@@ -11,6 +12,7 @@ mod notes;
 mod packer;
 mod runs;
 mod steps;
+mod sums;
 mod support;
 mod traffic;
 mod verifier;

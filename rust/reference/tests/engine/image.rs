@@ -1,11 +1,12 @@
 use reference::generate::{self, DamageKind, Rng};
 use reference::image::{
     block, blocks_needed, check, code, halfword, is_window, mend_sum, pack, pack_file,
-    set_halfword, BlockReader, Layout, BLOCKS_FIELD, BLOCK_BYTES, BLOCK_CODE, CODE_FIELD, MARK,
-    MARK_FIELD, MAX_BLOCKS, MAX_CODE, NUMBER_FIELD, SUM_FIELD, USED_FIELD, WINDOW_LENGTH_FIELD,
-    WINDOW_START_FIELD,
+    set_halfword, sum_from, BlockReader, Layout, BLOCKS_FIELD, BLOCK_BYTES, BLOCK_CODE,
+    BLOCK_HALFWORDS, CODE_FIELD, MARK, MARK_FIELD, MAX_BLOCKS, MAX_CODE, NUMBER_FIELD, SUM_FIELD,
+    USED_FIELD, WINDOW_LENGTH_FIELD, WINDOW_START_FIELD,
 };
 use reference::refusal::Refusal;
+use reference::table::SAMPLE;
 
 fn refused<T>(number: u8, place: u16) -> Result<T, Refusal> {
     Err(Refusal { number, place })
@@ -152,6 +153,56 @@ fn one_wrong_field() {
             let first_other = if block == 1 { 2 } else { 1 };
             assert_eq!(check(&file), refused(7, first_other));
         }
+    }
+}
+
+#[test]
+fn sums_of_equal_halfwords() {
+    for n in 0..BLOCK_HALFWORDS {
+        let count = 256 - n;
+        assert_eq!(sum_from(&[0x00; BLOCK_BYTES], n), 0);
+        // Each is 65,536 - 1, so what they lack of whole 65,536s is their count.
+        assert_eq!(usize::from(sum_from(&[0xFF; BLOCK_BYTES], n)), 65_536 - count);
+        // Each is 0x8000, so two of them are 65,536.
+        let halves = [0x00, 0x80].repeat(BLOCK_HALFWORDS);
+        assert_eq!(sum_from(&halves, n), if count % 2 == 0 { 0 } else { 0x8000 });
+    }
+}
+
+#[test]
+fn sums_of_one_halfword_and_zeros() {
+    for place in 0..BLOCK_HALFWORDS {
+        let mut block = [0; BLOCK_BYTES];
+        set_halfword(&mut block, place, 0x1234);
+        assert_eq!((block[2 * place], block[2 * place + 1]), (0x34, 0x12));
+        for n in 0..BLOCK_HALFWORDS {
+            let expected = if n <= place { 0x1234 } else { 0 };
+            assert_eq!(sum_from(&block, n), expected, "{place} {n}");
+        }
+    }
+}
+
+/// Added up by hand from the last halfword, 0xC090. Only zeros are before it, down to halfword 12,
+/// which is the last instruction and 0 as well.
+#[test]
+fn sums_of_the_sample() {
+    let file = pack_file(&SAMPLE, 256, 256).unwrap();
+    let mut expected = [0xC090; BLOCK_HALFWORDS];
+    expected[6..12].copy_from_slice(&[0x2D37, 0x0B3B, 0xCB33, 0xA8B3, 0x64A1, 0x2091]);
+    expected[..6].copy_from_slice(&[0x0000, 0x2F3F, 0x2F3F, 0x2F38, 0x2E38, 0x2D38]);
+    for (n, sum) in expected.into_iter().enumerate() {
+        assert_eq!(sum_from(&file, n), sum, "{n}");
+    }
+}
+
+/// No block behind the first is added to its sum.
+#[test]
+fn sums_end_with_the_block() {
+    let mut file = full_file(2);
+    let sums: Vec<u16> = (0..BLOCK_HALFWORDS).map(|n| sum_from(&file, n)).collect();
+    file[BLOCK_BYTES..].fill(0x55);
+    for (n, &expected) in sums.iter().enumerate() {
+        assert_eq!(sum_from(&file, n), expected, "{n}");
     }
 }
 

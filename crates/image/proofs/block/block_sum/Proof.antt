@@ -1,34 +1,37 @@
--- After j turns the sum is that of the first j halfwords.
+-- Before the turn at j the calls for halfwords 255 down to j are made; when all are, the order has made no difference.
 use mathlib.Core.Path.{_≡_, refl, ap, ap₂, _∙_}
 use Prim.Native.Nat.{_-_, _≤_}
-use native.Mathlib.Numerals.{add-one}
 use native.Mathlib.Omega.{arith}
 use borrow.Author.Needs.{needs}
-use Rattle.image.specs.Block.{halfword, addedTo, sumBelow}
+use Rattle.sums.specs.Sum.{addedTo, sumDownTo}
+use Rattle.sums.proofs.Sums.{down-next, down-below}
+use Rattle.image.specs.Block.{halfword}
 use Rattle.image.proofs.block.block_sum.Statement.{statement}
 use Rattle.image.proofs.block.block_sum.Tie as tie
 
 abbrev Inv-loop : tie.InvT-loop
-Inv-loop block sum₀ j₀ sum j = (j ≤ 256) × (sum ≡ sumBelow (halfword block) j)
+Inv-loop block sum₀ j₀ sum j = (j ≤ 256) × (sum ≡ sumDownTo (halfword block) j (256 - j))
 
 abbrev μ-loop : tie.MeasureT-loop
-μ-loop block sum₀ j₀ sum j = 256 - j
+μ-loop block sum₀ j₀ sum j = j
 
 loop-holds : tie.Need-loop-holds Inv-loop μ-loop
-unfolding sumBelow
+unfolding sumDownTo
 loop-holds c = (search needs, refl)
 
 loop-again : tie.Need-loop-again Inv-loop μ-loop
-unfolding sumBelow
-loop-again c = (
-  search needs,
-  rw add-one (c .add-to-sum .ensures ∙ ap₂ addedTo (c .before .before .before .loop .inv .1) (c .before .field .ensures)),
-)
+loop-again c =
+    let at = c .before .before .before .loop in (
+      search needs,
+      c .add-to-sum .ensures ∙ ap₂ addedTo (at .inv .1) (c .before .field .ensures) ∙ down-next _ (at .j) 256 (omega arith) (omega arith),
+    )
 
 returns : tie.Need-returns Inv-loop μ-loop
 returns c =
-    let e : c .before .loop .j ≡ 256 = omega arith in
-    c .before .loop .inv .1 ∙ ap (sumBelow (halfword (c .before .before .before .args .block .now))) e
+    let at = c .before .loop in
+    let block = halfword (c .before .before .before .args .block .now) in
+    let all : at .j ≡ 0 = omega arith in
+    at .inv .1 ∙ ap (λ j. sumDownTo block j (256 - j)) all ∙ down-below block 256
 
 pub block-sum-spec : {M : Type 1} → statement M
 block-sum-spec =
@@ -37,9 +40,9 @@ block-sum-spec =
     Inv-loop
     μ-loop
     loop-holds
-    (λ c κs. search needs)
-    (λ c κs. search needs)
     (λ c. search needs)
+    (λ c κs. search needs)
+    (λ c κs. search needs)
     (λ c. search needs)
     loop-again
     returns)
