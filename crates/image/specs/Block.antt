@@ -1,9 +1,9 @@
 -- A block of a file and its fields ("Image blocks", the table).
 use mathlib.Core.List.{List}
-use Prim.Native.Nat.{ℕ, _+_, _*_, _/_}
+use Prim.Native.Nat.{ℕ, _+_, _-_, _*_, _/_}
 use lib.ListN.{length, take, drop}
 use Rattle.units.specs.Bytes.{halfwordAt}
-use Rattle.sums.specs.Sum.{sumBelow}
+use Rattle.sums.specs.Sum.{sumBelow, sumDownTo}
 use Rattle.image.specs.Format.{blockBytes, blockHalfwords, headerHalfwords}
 
 -- how many blocks a file has, and block k's bytes
@@ -43,3 +43,7 @@ codeHalfword block i = halfword block (headerHalfwords + i)
 -- the sum of a whole block
 abbrev pub sumOf : List ℕ → ℕ
 sumOf block = sumBelow (halfword block) blockHalfwords
+
+-- the sum after calls for halfwords 255 down to n, the last halfword first (Change 3)
+abbrev pub sumFromBack : List ℕ → ℕ → ℕ
+sumFromBack block n = sumDownTo (halfword block) n (blockHalfwords - n)

@@ -1,14 +1,13 @@
--- Unused halfwords, places and what balances a sum, without a word of images.
+-- Unused halfwords and places, without a word of images.
 use mathlib.Core.Bool.{Bool, true, false, _&&_}
 use mathlib.Core.Logic.{_⊎_, inl, inr, ⊎-elim}
 use mathlib.Core.Path.{_≡_, refl, ap, ap₂, _∙_}
 use mathlib.Core.List.{List}
-use Prim.Native.Nat.{ℕ, zero, suc, _+_, _-_, _*_, _/_, _%_, _<_, _≤_}
+use Prim.Native.Nat.{ℕ, zero, suc, _+_, _*_, _/_, _%_, _<_, _≤_}
 use native.Mathlib.Nat.{eq-or-lt-of-le}
 use native.Mathlib.Omega.{arith}
 use borrow.Author.Tests.{eq-eqb, eqb-true, ltb-true, ltb-false}
 use lib.Dec.{eqb, ltb}
-use Rattle.units.specs.Address.{wrap}
 use Rattle.image.specs.Block.{codeHalfword}
 use Rattle.image.specs.Check.{unusedZero}
 use Rattle.image.proofs.Verdicts.{and-left, and-right}
@@ -43,7 +42,3 @@ even-place p q r e z = omega arith
 
 pub odd-place : (p q r : ℕ) → p ≡ 512 * q + r → p % 2 ≡ 1 → 512 * q + 2 * (r / 2) + 1 ≡ p
 odd-place p q r e z = omega arith
-
--- a sum and what brings it back to 0
-pub sum-back : (s : ℕ) → s < 65536 → wrap (s + wrap (65536 - s)) ≡ 0
-sum-back s h = omega arith

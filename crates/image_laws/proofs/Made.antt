@@ -21,14 +21,14 @@ use Rattle.image.specs.Check.{firstNo, check2, check3, check4, check5, check6, 
 use Rattle.packer.specs.Pack.{blocksNeeded, usedIn, bodyHalfword, balanceOf, imageHalfword, imageOf}
 use Rattle.image.specs.declared.answer.Answer.the-variants.{Pass}
 use Rattle.image.specs.declared.checker.Checked.the-variants.{Valid}
-use Rattle.sums.proofs.Sums.{sum-less, sum-same}
+use Rattle.sums.proofs.Sums.{sum-less, sum-same, sum-back}
 use Rattle.image.proofs.Blocks.{block-halfword}
 use Rattle.image.proofs.Answers.{passed-head, all-passed}
 use Rattle.image.proofs.Verdicts.{rest8}
 use Rattle.packer.proofs.Images.{image-length, image-low, image-high, body-code, body-at, balance-at}
 use Rattle.image.proofs.Valid.{code-length, code-halfword}
 use Rattle.image_laws.specs.Claims.{layout}
-use Rattle.image_laws.proofs.Halves.{unused-all, sum-back}
+use Rattle.image_laws.proofs.Halves.{unused-all}
 
 -- the last block of n halfwords ends the code, and a block before it is full
 used-right : (n k : ℕ) → k < blocksNeeded n → usedRight (eqb (k + 1) (blocksNeeded n)) (usedIn n k) ≡ true

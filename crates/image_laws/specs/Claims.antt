@@ -7,9 +7,9 @@ use lib.ListN.{length, getD}
 use denote.Ref.{RefT, now}
 use Rattle.units.specs.Address.{wrap}
 use Rattle.refusals.specs.declared.refusal.Refusal.{Refusal}
-use Rattle.sums.specs.Sum.{sumDownTo, plainSum}
+use Rattle.sums.specs.Sum.{plainSum}
 use Rattle.image.specs.Format.{blockBytes, blockHalfwords}
-use Rattle.image.specs.Block.{blocksIn, blockOf, halfword, sumOf}
+use Rattle.image.specs.Block.{blocksIn, blockOf, halfword, sumOf, sumFromBack}
 use Rattle.image.specs.Code.{codeOf}
 use Rattle.image.specs.Check.{check4, layoutOf, checkOf}
 use Rattle.reader.specs.Reader.{givenOf, bytesOf, openOf, answerOf, nextOf, afterNext}
@@ -39,17 +39,13 @@ CheckThenPack =
     (file : List ℕ) (c w l : ℕ) (out : List ℕ) → Bytes file → checkOf file ≡ Valid (layout c w l) → length out ≡ length file
     → (packOf (codeOf file) w l (length out) ≡ Done) × (outputOf (codeOf file) w l out ≡ file)
 
--- the sum after the calls for halfwords 255 down to n of a block, the last halfword first
-abbrev pub sumFromBack : List ℕ → ℕ → ℕ
-sumFromBack block n = sumDownTo (halfword block) n (blockHalfwords - n)
-
--- it is the sum of halfwords n to 255 modulo 65,536
+-- calls for halfwords 255 down to n of a block come to the sum of halfwords n to 255 modulo 65,536
 abbrev pub BackwardSum : Type 0
 BackwardSum =
     (block : List ℕ) (n : ℕ) → n < blockHalfwords
     → sumFromBack block n ≡ wrap (plainSum (halfword block) n (blockHalfwords - n))
 
--- when all 256 are added, it is the sum that the check speaks of, whose calls come in the other order
+-- calls for all 256 come to the sum that check 4 speaks of, which goes in the other order
 abbrev pub SameSum : Type 0
 SameSum = (block : List ℕ) → sumFromBack block 0 ≡ sumOf block
 

@@ -12,13 +12,9 @@ use Rattle.sums.specs.Sum.{addedTo, sumBelow}
 use Rattle.image.specs.Format.{blockBytes, blockHalfwords, blockCode, headerHalfwords}
 use Rattle.packer.specs.Pack.{blocksNeeded, headerOf, bodyHalfword, balanceOf, imageHalfword, imageByte, imageOf}
 use Rattle.packer.specs.Writing.{Room, Written, codeEnd}
-use Rattle.sums.proofs.Sums.{sum-less}
+use Rattle.sums.proofs.Sums.{sum-less, back-unique}
 use Rattle.image.proofs.Lists.{length-tabulate, tabulate-at}
 use Rattle.packer.proofs.Overwriting.{two-more}
-
--- what brings a sum back to 0
-pub balanced : (r s : ℕ) → r < 65536 → s < 65536 → (r + s) % 65536 ≡ 0 → r ≡ wrap (65536 - s)
-balanced r s hr hs e = omega arith
 
 module _ (code : List ℕ) (w l : ℕ) where
   pub image-length : length (imageOf code w l) ≡ blockBytes * blocksNeeded (length code)
@@ -77,7 +73,7 @@ module _ (code : List ℕ) (w l : ℕ) where
   unfolding balanceOf
   balance-is k r s q h e =
       let less : s < 65536 = rw q (sum-less (bodyHalfword code w l k) 255) in
-      balanced r s h less e ∙ ap (λ (x : ℕ). wrap (65536 - x)) q
+      back-unique r s h less e ∙ ap (λ (x : ℕ). wrap (65536 - x)) q
 
   pub balance-at : (k : ℕ) → imageHalfword code w l k 255 ≡ balanceOf code w l k
   unfolding imageHalfword

@@ -5,6 +5,7 @@ use image::BLOCK_HALFWORDS;
 use image::HEADER_BYTES;
 use image::HEADER_HALFWORDS;
 use image::MARK;
+use sums::add_to_sum;
 use units::put_halfword;
 ghost use mathlib.Core.Path.{_≡_};
 ghost use Prim.Native.Nat.{ℕ, _+_, _-_, _*_, _/_, _<_, _≤_};
@@ -61,7 +62,7 @@ fn write_header(code: &[u16], w: u16, l: u16, k: usize, out: &mut [u8]) -> u16
     while j < HEADER_HALFWORDS {
         let h = header_halfword(code, w, l, k, j);
         put_halfword(out, start + 2 * j, h);
-        sum = std::num::wrapping_add_u16(sum, h);
+        sum = add_to_sum(sum, h);
         j += 1;
     }
     sum
@@ -82,7 +83,7 @@ fn write_code(code: &[u16], k: usize, out: &mut [u8], header: u16) -> u16
     while i < used {
         let h = code[first + i];
         put_halfword(out, start + 2 * i, h);
-        sum = std::num::wrapping_add_u16(sum, h);
+        sum = add_to_sum(sum, h);
         i += 1;
     }
     sum

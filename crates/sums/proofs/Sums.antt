@@ -1,6 +1,6 @@
 -- From the front or from the back, a sum is the plain sum, wrapped.
 use mathlib.Core.Path.{_≡_, refl, sym, ap, ap₂, _∙_}
-use Prim.Native.Nat.{ℕ, zero, suc, _+_, _-_, _≤_, _<_}
+use Prim.Native.Nat.{ℕ, zero, suc, _+_, _-_, _%_, _≤_, _<_}
 use native.Mathlib.Nat.{zero-add}
 use native.Mathlib.Omega.{arith}
 use Rattle.units.specs.Address.{wrap}
@@ -56,3 +56,10 @@ pub sum-same : (f g : ℕ → ℕ) (n : ℕ) → ((j : ℕ) → j < n → f j �
 unfolding sumBelow
 sum-same f g zero same = refl
 sum-same f g (suc n) same = ap₂ addedTo (sum-same f g n (λ j h. same j (omega arith))) (same n (omega arith))
+
+-- what brings a sum back to 0, and that nothing else does
+pub sum-back : (s : ℕ) → s < 65536 → wrap (s + wrap (65536 - s)) ≡ 0
+sum-back s h = omega arith
+
+pub back-unique : (r s : ℕ) → r < 65536 → s < 65536 → (r + s) % 65536 ≡ 0 → r ≡ wrap (65536 - s)
+back-unique r s hr hs e = omega arith

@@ -1,16 +1,16 @@
 -- Before the turn at j the calls for halfwords 255 down to j are made; when all are, the order has made no difference.
 use mathlib.Core.Path.{_≡_, refl, ap, ap₂, _∙_}
-use Prim.Native.Nat.{_-_, _≤_}
+use Prim.Native.Nat.{_≤_}
 use native.Mathlib.Omega.{arith}
 use borrow.Author.Needs.{needs}
 use Rattle.sums.specs.Sum.{addedTo, sumDownTo}
 use Rattle.sums.proofs.Sums.{down-next, down-below}
-use Rattle.image.specs.Block.{halfword}
+use Rattle.image.specs.Block.{sumFromBack}
 use Rattle.image.proofs.block.block_sum.Statement.{statement}
 use Rattle.image.proofs.block.block_sum.Tie as tie
 
 abbrev Inv-loop : tie.InvT-loop
-Inv-loop block sum₀ j₀ sum j = (j ≤ 256) × (sum ≡ sumDownTo (halfword block) j (256 - j))
+Inv-loop block sum₀ j₀ sum j = (j ≤ 256) × (sum ≡ sumFromBack block j)
 
 abbrev μ-loop : tie.MeasureT-loop
 μ-loop block sum₀ j₀ sum j = j
@@ -29,9 +29,9 @@ loop-again c =
 returns : tie.Need-returns Inv-loop μ-loop
 returns c =
     let at = c .before .loop in
-    let block = halfword (c .before .before .before .args .block .now) in
+    let block = c .before .before .before .args .block .now in
     let all : at .j ≡ 0 = omega arith in
-    at .inv .1 ∙ ap (λ j. sumDownTo block j (256 - j)) all ∙ down-below block 256
+    at .inv .1 ∙ ap (sumFromBack block) all ∙ down-below _ _
 
 pub block-sum-spec : {M : Type 1} → statement M
 block-sum-spec =

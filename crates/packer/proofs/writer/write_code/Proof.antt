@@ -32,7 +32,7 @@ loop-again c =
       omega arith,
       head .loop .inv .1,
       p .put-halfword .kept .0 ∙ head .loop .inv .2,
-      λ w l so. rw next (written-more (m .args .code .now) w l (m .args .k) (6 + i) _ _ _ _ _ room (head .loop .inv .3 w l so) (omega arith) (p .put-halfword .ensures) _ (omega arith) (sym (body-code (m .args .code .now) w l (m .args .k) i)) (c .wrapping-add-u16 .ensures)),
+      λ w l so. rw next (written-more (m .args .code .now) w l (m .args .k) (6 + i) _ _ _ _ _ room (head .loop .inv .3 w l so) (omega arith) (p .put-halfword .ensures) _ (omega arith) (sym (body-code (m .args .code .now) w l (m .args .k) i)) (c .add-to-sum .ensures)),
     )
 
 same-length : tie.Need-same-length Inv-loop μ-loop

@@ -28,7 +28,7 @@ loop-again c =
     let is = body-header (m .args .code .now) (m .args .w) (m .args .l) (m .args .k) (head .loop .j) _ (h .before .loop-test .taken) (h .header-halfword .ensures) in (
       search needs,
       p .put-halfword .kept .0 ∙ head .loop .inv .1,
-      written-more _ _ _ _ (head .loop .j) _ _ _ _ _ room (head .loop .inv .2) refl (p .put-halfword .ensures) _ (omega arith) is (c .wrapping-add-u16 .ensures),
+      written-more _ _ _ _ (head .loop .j) _ _ _ _ _ room (head .loop .inv .2) refl (p .put-halfword .ensures) _ (omega arith) is (c .add-to-sum .ensures),
     )
 
 same-length : tie.Need-same-length Inv-loop μ-loop
