@@ -2,8 +2,8 @@
 use Prim.Native.Nat.{ℕ, _+_, _-_, _%_, _<_, _≤_}
 use native.Mathlib.Omega.{arith}
 use mathlib.Core.Bool.{Bool, true, false, not, _&&_, Bool·beq}
-use mathlib.Core.Path.{_≡_, refl, sym, ap, _∙_}
-use lib.Dec.{leb, ltb, eqb}
+use mathlib.Core.Path.{_≡_, refl, ap, _∙_}
+use lib.Dec.{leb, eqb}
 use borrow.Author.Tests.{leb-true, leb-false, eqb-true, le-leb, lt-leb, lt-ltb, le-ltb, ne-eqb}
 use Rattle.alu.specs.Flags.{Flags}
 use Rattle.alu.specs.Alu.{negative, signsDiffer, differenceOf, differenceFlags, shiftedOf, shiftOf}
@@ -19,7 +19,9 @@ flags-are p q r t = rw (p, q, r, t)
 
 -- N and Z of a result that is known
 pub result-are : (r known : ℕ) {c c′ v v′ : Bool} → r < 65536 → r ≡ known → c ≡ c′ → v ≡ v′
-    → _≡_ {A = Flags} (record { n = negative r; z = eqb (r % 65536) 0; c = c; v = v }) (record { n = negative known; z = eqb known 0; c = c′; v = v′ })
+    → _≡_ {A = Flags}
+    (record { n = negative r; z = eqb (r % 65536) 0; c = c; v = v })
+    (record { n = negative known; z = eqb known 0; c = c′; v = v′ })
 result-are r known l is p q = flags-are (ap negative is) (zero-in r l ∙ ap (λ (x : ℕ). eqb x 0) is) p q
 
 -- b with every bit the other way round
@@ -38,7 +40,8 @@ no-borrow a b l = go (leb b a) refl
     go false e = let p : a < b = leb-false b a e in lt-leb 65536 (a + 65536 - b) (omega arith)
 
 -- a sign that neither a nor the turned b has, and one that a has not where b's differs from a's
-signs-are : (p q n : Bool) → (not (Bool·beq p n) && not (Bool·beq (not q) n)) ≡ (not (Bool·beq p q) && not (Bool·beq p n))
+signs-are : (p q n : Bool)
+    → (not (Bool·beq p n) && not (Bool·beq (not q) n)) ≡ (not (Bool·beq p q) && not (Bool·beq p n))
 signs-are true true true = refl
 signs-are true true false = refl
 signs-are true false true = refl
@@ -81,5 +84,9 @@ pub shift-above : (a k : ℕ) → a < 65536 → 16 ≤ k → shiftedOf a 15 ≡ 
 shift-above a k l h = go (negative a) refl
   where
     go : (t : Bool) → negative a ≡ t → shiftedOf a 15 ≡ shiftOf a k
-    go true e = let p : 32768 ≤ a = leb-true 32768 a e in simp (e, ne-eqb k 0 (λ z. omega arith), le-ltb k 16 h) (omega arith)
-    go false e = let p : a < 32768 = leb-false 32768 a e in simp (e, ne-eqb k 0 (λ z. omega arith), le-ltb k 16 h) (omega arith)
+    go true e =
+        let p : 32768 ≤ a = leb-true 32768 a e in
+        simp (e, ne-eqb k 0 (λ z. omega arith), le-ltb k 16 h) (omega arith)
+    go false e =
+        let p : a < 32768 = leb-false 32768 a e in
+        simp (e, ne-eqb k 0 (λ z. omega arith), le-ltb k 16 h) (omega arith)

@@ -1,4 +1,5 @@
--- How the code holds flags: as the numbers that they speak of. Only contracts of functions that are no entry points speak of it.
+-- How the code holds flags: as the numbers that they speak of. Only contracts of functions that are no entry points
+-- speak of it.
 use mathlib.Core.Bool.{_&&_}
 use Prim.Native.Nat.{_%_}
 use lib.Dec.{eqb, leb}
@@ -7,8 +8,8 @@ use Rattle.alu.specs.declared.status.Status.{Status}
 use Rattle.alu.specs.Flags.{Flags}
 use Rattle.alu.specs.Alu.{negative, signsDiffer}
 
--- N and Z speak of the result that is held, C and V of the sum: where it has more than 16 bits, and where its low 16 have a
--- sign that neither operand has
+-- N and Z speak of the result that is held, C and V of the sum: where it has more than 16 bits, and where its low 16
+-- have a sign that neither operand has
 abbrev pub flagsIn : Control → Flags
 flagsIn k =
     let low = k .sum % 65536 in

@@ -5,7 +5,8 @@ use super::control::Control;
 ghost use mathlib.Core.Path.{_≡_};
 ghost use Prim.Native.Nat.{_%_, _<_};
 ghost use lib.Dec.{leb};
-ghost use Rattle.alu.specs.Alu.{resultFlags, sumOf, sumFlags, differenceOf, differenceFlags, shiftedOf, shiftOf, shiftCarry, shiftFlags};
+ghost use Rattle.alu.specs.Alu.{resultFlags, sumOf, sumFlags, differenceOf, differenceFlags, shiftedOf, shiftOf};
+ghost use Rattle.alu.specs.Alu.{shiftCarry, shiftFlags};
 ghost use Rattle.alu.specs.Control.{flagsIn};
 
 // N and Z of a result.

@@ -28,7 +28,8 @@ abbrev pub checkedWord : Checked → ℕ
 checkedWord (checked.Valid layout) = layoutWord layout
 checkedWord (checked.Refused r) = refusalWord r
 
--- what a reader answers: the refusal, where in the file the block starts and above that its length, or that none is left, which has no length
+-- what a reader answers: the refusal, where in the file the block starts and above that its length, or that none is
+-- left, which has no length
 abbrev pub givenWord : Given → ℕ
 givenWord (given.Refused r) = refusalWord r
 givenWord (given.Block start) = start * 0x10000 + blockBytes * 0x100000000

@@ -9,7 +9,8 @@ use refusals::Refusal;
 use verifier::Verdict;
 ghost use mathlib.Core.Path.{_≡_};
 ghost use Prim.Native.Nat.{_<_};
-ghost use Rattle.answers.specs.Answers.{refusalWord, layoutWord, checkedWord, givenWord, startOf, verdictWord, loadedWord, packedNumber};
+ghost use Rattle.answers.specs.Answers.{refusalWord, layoutWord, checkedWord, givenWord, startOf, verdictWord};
+ghost use Rattle.answers.specs.Answers.{loadedWord, packedNumber};
 
 // A refusal's number, and its place above it.
 fn refusal_word(r: Refusal) -> u64

@@ -1,5 +1,5 @@
--- Checks 9 to 14 of an instruction ("The questions"). `base` is the abstract value of its base register before it; the layout has c, the code's
--- length in bytes, and w and l, the window's start and length.
+-- Checks 9 to 14 of an instruction ("The questions"). `base` is the abstract value of its base register before
+-- it; the layout has c, the code's length in bytes, and w and l, the window's start and length.
 use mathlib.Core.Bool.{Bool, true, false, cond, not, _&&_}
 use mathlib.Core.List.{List, [], _∷_}
 use Prim.Native.Nat.{ℕ, zero, suc, _+_}
@@ -9,7 +9,9 @@ use Rattle.units.specs.declared.address.ByteAddress.{ByteAddress}
 use Rattle.isa.specs.declared.decoder.Decoded.{Decoded}
 use Rattle.isa.specs.declared.decoder.Decoded.the-variants.{Defined, Undefined}
 use Rattle.isa.specs.declared.instruction.Instruction.{Instruction}
-use Rattle.isa.specs.declared.instruction.Instruction.the-variants.{MovImm, CmpImm, And, Eor, Asr, Tst, Neg, Cmp, AddHigh, CmpHigh, MovHigh, Str, Ldr, Strb, Ldrb, AddPc, Branch, Halt}
+use Rattle.isa.specs.declared.instruction.Instruction.the-variants.{MovImm, CmpImm, And, Eor, Asr, Tst, Neg, Cmp}
+use Rattle.isa.specs.declared.instruction.Instruction.the-variants.{AddHigh, CmpHigh, MovHigh, Str, Ldr, Strb, Ldrb}
+use Rattle.isa.specs.declared.instruction.Instruction.the-variants.{AddPc, Branch, Halt}
 use Rattle.image.specs.Check.{Asked}
 use Rattle.image.specs.declared.answer.Answer.{Answer}
 use Rattle.image.specs.declared.answer.Answer.the-variants.{Pass, Refused}
@@ -26,8 +28,8 @@ abbrev pub check9 : Decoded → Bool
 check9 (Defined i) = true
 check9 Undefined = false
 
--- 10: the data of a load or store is in the window, whatever number its base register is. The sums are of unbounded numbers: an address that
--- would wrap is past the window
+-- 10: the data of a load or store is in the window, whatever number its base register is. The sums are of
+-- unbounded numbers: an address that would wrap is past the window
 abbrev pub check10 : Value → Layout → Access → Bool
 check10 base layout access =
     cond (eqb (access .size) 0) true
@@ -64,7 +66,8 @@ abbrev pub staysInCode : Layout → Target → Bool
 staysInCode layout (To a) = ltb (a .0) (layout .«code_bytes»)
 staysInCode layout Nowhere = true
 
--- 13: a branch goes to an address of the code. One that leads below address 0 comes round to a high address, which is never below c
+-- 13: a branch goes to an address of the code. One that leads below address 0 comes round to a high address,
+-- which is never below c
 abbrev pub check13 : Layout → ByteAddress → Instruction → Bool
 check13 layout a i = staysInCode layout (jumpOf a i)
 
@@ -92,7 +95,8 @@ halfwordChecks s layout a isLast h Undefined = atAddress a 9 (check9 Undefined) 
 halfwordChecks s layout a isLast h (Defined i) =
     atAddress a 9 (check9 (Defined i)) ∷ definedChecks (value s (accessOf i .base)) layout a isLast h i
 
--- what a number says of the checks of the instruction at an address: 0 that all have passed, else which is the first that has not
+-- what a number says of the checks of the instruction at an address: 0 that all have passed, else which is the
+-- first that has not
 abbrev pub answerAt : ByteAddress → ℕ → Answer
 answerAt a zero = Pass
 answerAt a (suc n) = Refused (refusalAt (suc n) a)

@@ -1,4 +1,5 @@
--- The abstract state ("Facts the judge carries"): an abstract value for each register, and what an instruction makes of them.
+-- The abstract state ("Facts the judge carries"): an abstract value for each register, and what an instruction
+-- makes of them.
 use mathlib.Core.List.{List}
 use Prim.Native.Nat.{ℕ}
 use lib.ListN.{getD, set, replicate}
@@ -7,7 +8,9 @@ use Rattle.units.specs.declared.address.ByteAddress.{ByteAddress}
 use Rattle.isa.specs.declared.decoder.Decoded.{Decoded}
 use Rattle.isa.specs.declared.decoder.Decoded.the-variants.{Defined, Undefined}
 use Rattle.isa.specs.declared.instruction.Instruction.{Instruction}
-use Rattle.isa.specs.declared.instruction.Instruction.the-variants.{MovImm, CmpImm, And, Eor, Asr, Tst, Neg, Cmp, AddHigh, CmpHigh, MovHigh, Str, Ldr, Strb, Ldrb, AddPc, Branch, Halt}
+use Rattle.isa.specs.declared.instruction.Instruction.the-variants.{MovImm, CmpImm, And, Eor, Asr, Tst, Neg, Cmp}
+use Rattle.isa.specs.declared.instruction.Instruction.the-variants.{AddHigh, CmpHigh, MovHigh, Str, Ldr, Strb, Ldrb}
+use Rattle.isa.specs.declared.instruction.Instruction.the-variants.{AddPc, Branch, Halt}
 use Rattle.domain.specs.declared.value.Value.{Value}
 use Rattle.domain.specs.Value.{unknownOf, exactlyOf, addOf, andOf, eorOf, asrOf, negOf, byteOf}
 
@@ -18,7 +21,8 @@ registerCount = 16
 abbrev pub pcRegister : ℕ
 pcRegister = 15
 
--- the values of R0 to R15, in order. The papers carry those of R0 to R14; that of R15 is the address of the instruction, which is always known
+-- the values of R0 to R15, in order. The papers carry those of R0 to R14; that of R15 is the address of the
+-- instruction, which is always known
 abbrev pub State : Type 0
 State = List Value
 
@@ -34,7 +38,8 @@ standingAt a s = set s pcRegister (exactlyOf (a .0))
 abbrev pub value : State → ℕ → Value
 value s r = getD s r unknownOf
 
--- the state after the instruction at an address, from that before it: comparisons, stores, branches and HALT change no register's value
+-- the state after the instruction at an address, from that before it: comparisons, stores, branches and HALT
+-- change no register's value
 abbrev pub transferOf : ByteAddress → Instruction → State → State
 transferOf a (MovImm rd imm) s = set s rd (exactlyOf imm)
 transferOf a (CmpImm rd imm) s = s

@@ -27,7 +27,8 @@ pub fn check_last(h: u16) -> u8
 // so that a high base can't wrap into the window.
 fn check_access(base: Value, layout: Layout, offset: u16, size: u8) -> u8
     requires { ⌜ 0 < size ⌝ }
-    ensures { λ r. ⌜ r ≡ accessNumber base layout (record { base = 0; offset = offset; size = size; stores = false }) ⌝ }
+    ensures { λ r. ⌜ r ≡ accessNumber base layout
+        (record { base = 0; offset = offset; size = size; stores = false }) ⌝ }
 {
     let start = layout.window_start as u32;
     let end = start + layout.window_length as u32;

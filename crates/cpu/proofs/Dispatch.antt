@@ -10,6 +10,7 @@ use Rattle.isa.specs.Decode.{entry, immTable, aluTable, highTable, table, decod
 use Rattle.isa.specs.declared.decoder.Decoded.the-variants.{Defined, Undefined}
 use Rattle.isa.specs.declared.instruction.Instruction.the-variants.{AddHigh, CmpHigh, MovHigh, Branch}
 use Rattle.isa.proofs.Table.{entry-past, skip}
+use Rattle.isa.proofs.Formats.{parts, no-memory}
 use Rattle.cpu.specs.Held.{branchElse, otherElse}
 
 -- the last arm of a `match` is told that the number is none of those above it
@@ -26,6 +27,12 @@ not-past x n small is past = omega arith
 -- a number above all formats
 beyond : (t x n : ℕ) → x ≡ suc (suc (suc (suc (suc (suc (suc t)))))) → n < 7 → x ≡ n → ⊥
 beyond t x n is small z = omega arith
+
+-- the top five bits of all else: where they are no operation's on registers, nothing has been taken away
+pub as-decoded : (h n : ℕ) → field h 11 5 ≡ n → eqb (n / 4) 2 ≡ false → otherElse h ≡ decodeOf h
+as-decoded h n e other =
+    let not-two : Not (field h 13 3) 2 = λ z. eqb-false (n / 4) 2 other (omega arith) in
+    simp (ne-eqb (field h 13 3) 2 not-two)
 
 module _ (h : ℕ) (fits : h < 65536) where
   -- the upper ten bits of the operations on registers: one of those on R0 to R7
@@ -62,7 +69,8 @@ module _ (h : ℕ) (fits : h < 65536) where
   is-low-mov e = is-high 2 0 (lit< tt) (lit< tt) e ∙ rw (low-rs (omega arith), low-rd (omega arith))
 
   -- a comparison, which has H1 or H2
-  pub is-cmp : (halves : ℕ) → 0 < halves → halves < 4 → h / 64 ≡ 276 + halves → decodeOf h ≡ Defined (CmpHigh (highRs h) (highRd h))
+  pub is-cmp : (halves : ℕ) → 0 < halves → halves < 4 → h / 64 ≡ 276 + halves
+      → decodeOf h ≡ Defined (CmpHigh (highRs h) (highRd h))
   is-cmp halves some two e =
       let z : 0 < field h 6 2 = omega (arith, halves-are 1 halves (lit< tt) two e) in
       is-high 1 halves (lit< tt) two e ∙ simp (lt-ltb 0 (field h 6 2) z)
@@ -96,67 +104,58 @@ module _ (h : ℕ) (fits : h < 65536) where
         by-half (suc (suc n)) g = rw (f, g)
 
   pub is-other : {B : Type 0} (x : ℕ) → x ≡ h / 64
-      → ((((((((((((((((B × Not x 256) × Not x 257) × Not x 258) × Not x 259) × Not x 260) × Not x 261) × Not x 272) × Not x 273) × Not x 274) × Not x 275) × Not x 277) × Not x 278) × Not x 279) × Not x 280) × Not x 281) × Not x 282) × Not x 283
+      → ((((((((((((((((B × Not x 256) × Not x 257) × Not x 258) × Not x 259) × Not x 260) × Not x 261) × Not x 272)
+      × Not x 273) × Not x 274) × Not x 275) × Not x 277) × Not x 278) × Not x 279) × Not x 280) × Not x 281)
+      × Not x 282) × Not x 283
       → decodeOf h ≡ otherElse h
   is-other x told n = go (eqb (field h 13 3) 2) refl
     where
       alu : 256 ≤ x → 262 ≤ x
-      alu p =
-          skip 261 (skip 260 (skip 259 (skip 258 (skip 257 (skip 256 p
-          (n .0 .0 .0 .0 .0 .0 .0 .0 .0 .0 .0 .0 .0 .0 .0 .0 .1)) (n .0 .0 .0 .0 .0 .0 .0 .0 .0 .0 .0 .0 .0 .0 .0 .1)) (n .0 .0 .0 .0 .0 .0 .0 .0 .0 .0 .0 .0 .0 .0 .1))
-          (n .0 .0 .0 .0 .0 .0 .0 .0 .0 .0 .0 .0 .0 .1)) (n .0 .0 .0 .0 .0 .0 .0 .0 .0 .0 .0 .0 .1)) (n .0 .0 .0 .0 .0 .0 .0 .0 .0 .0 .0 .1)
+      alu p = search (skip 256, skip 257, skip 258, skip 259, skip 260, skip 261) depth 8
 
       add : 272 ≤ x → 276 ≤ x
-      add p =
-          skip 275 (skip 274 (skip 273 (skip 272 p
-          (n .0 .0 .0 .0 .0 .0 .0 .0 .0 .0 .1)) (n .0 .0 .0 .0 .0 .0 .0 .0 .0 .1)) (n .0 .0 .0 .0 .0 .0 .0 .0 .1)) (n .0 .0 .0 .0 .0 .0 .0 .1)
+      add p = search (skip 272, skip 273, skip 274, skip 275) depth 6
 
       rest : 277 ≤ x → 284 ≤ x
-      rest p =
-          skip 283 (skip 282 (skip 281 (skip 280 (skip 279 (skip 278 (skip 277 p
-          (n .0 .0 .0 .0 .0 .0 .1)) (n .0 .0 .0 .0 .0 .1)) (n .0 .0 .0 .0 .1)) (n .0 .0 .0 .1)) (n .0 .0 .1)) (n .0 .1)) (n .1)
+      rest p = search (skip 277, skip 278, skip 279, skip 280, skip 281, skip 282, skip 283) depth 9
 
       go : (t : Bool) → eqb (field h 13 3) 2 ≡ t → decodeOf h ≡ otherElse h
       go true e = no-registers x told (eqb-true (field h 13 3) 2 e) alu add rest ∙ sym (simp e)
       go false e = sym (simp e)
 
-  -- the top five bits of all else: where they are no operation's on registers, nothing has been taken away
-  pub as-decoded : (n : ℕ) → field h 11 5 ≡ n → Not (n / 4) 2 → otherElse h ≡ decodeOf h
-  as-decoded n e other =
-      let not-two : Not (field h 13 3) 2 = λ z. other (omega (arith, z, e)) in
-      simp (ne-eqb (field h 13 3) 2 not-two)
-
   -- only branches are left
-  parts : field h 11 5 ≡ 4 * field h 13 3 + field h 11 2
-  parts = omega arith
-
   no-halt : Not (field h 11 5) 0 → 256 ≤ h
   no-halt n = omega arith
 
   no-imm : Not (field h 11 5) 4 → Not (field h 11 5) 5 → field h 13 3 ≡ 1 → 2 ≤ field h 11 2
-  no-imm n n′ f = omega (arith, parts)
-
-  no-memory : Not (field h 11 5) 12 → Not (field h 11 5) 13 → Not (field h 11 5) 14 → Not (field h 11 5) 15 → field h 13 3 ≡ 3 → ⊥
-  no-memory a b c d f = omega arith
+  no-imm n n′ f = omega (arith, parts h fits)
 
   pub is-branch-or-none : {B : Type 0} (n : ℕ) → n ≡ field h 11 5
       → (((((((B × Not n 0) × Not n 4) × Not n 5) × Not n 12) × Not n 13) × Not n 14) × Not n 15) × Not n 20
       → otherElse h ≡ branchElse h
   is-branch-or-none n told r = by-format (field h 13 3) refl
     where
+      -- what the last arm is told, of the field itself
+      not-here : {k : ℕ} → Not n k → Not (field h 11 5) k
+      not-here other z = other (told ∙ z)
+
       by-format : (t : ℕ) → field h 13 3 ≡ t → otherElse h ≡ branchElse h
-      by-format zero f = simp (f, le-ltb h 256 (no-halt (λ z. r .0 .0 .0 .0 .0 .0 .0 .1 (told ∙ z))))
+      by-format zero f = simp (f, le-ltb h 256 (no-halt (not-here (search))))
       by-format (suc zero) f =
-          rw f (entry-past (immTable h) (field h 11 2) (no-imm (λ z. r .0 .0 .0 .0 .0 .0 .1 (told ∙ z)) (λ z. r .0 .0 .0 .0 .0 .1 (told ∙ z)) f))
+          rw f (entry-past (immTable h) (field h 11 2) (no-imm (not-here (search)) (not-here (search)) f))
       by-format (suc (suc zero)) f = simp f
       by-format (suc (suc (suc zero))) f =
-          absurd (no-memory (λ z. r .0 .0 .0 .0 .1 (told ∙ z)) (λ z. r .0 .0 .0 .1 (told ∙ z)) (λ z. r .0 .0 .1 (told ∙ z)) (λ z. r .0 .1 (told ∙ z)) f)
+          absurd
+          (no-memory h fits (not-here (search)) (not-here (search)) (not-here (search)) (not-here (search)) f)
       by-format (suc (suc (suc (suc zero)))) f = rw f
       by-format (suc (suc (suc (suc (suc zero))))) f =
-          simp (f, ne-eqb (field h 11 2) 0 (λ z. r .1 (told ∙ rw (parts, f, z))))
+          simp (f, ne-eqb (field h 11 2) 0 (λ z. r .1 (told ∙ rw (parts h fits, f, z))))
       by-format (suc (suc (suc (suc (suc (suc zero)))))) f = rw f
       by-format (suc (suc (suc (suc (suc (suc (suc t))))))) f =
-          simp (ne-eqb (field h 13 3) 2 (beyond t (field h 13 3) 2 f (lit< tt)), ne-eqb (field h 13 3) 6 (beyond t (field h 13 3) 6 f (lit< tt)))
+          simp (
+            ne-eqb (field h 13 3) 2 (beyond t (field h 13 3) 2 f (lit< tt)),
+            ne-eqb (field h 13 3) 6 (beyond t (field h 13 3) 6 f (lit< tt)),
+          )
           (ap (entry (table h)) f)
 
   -- the upper byte of a branch
@@ -175,18 +174,32 @@ module _ (h : ℕ) (fits : h < 65536) where
       omega (arith, byte)
 
   pub is-none : {B : Type 0} (x : ℕ) → x ≡ field h 8 8
-      → (((((((((((((B × Not x 208) × Not x 209) × Not x 210) × Not x 211) × Not x 212) × Not x 213) × Not x 214) × Not x 215) × Not x 216) × Not x 217) × Not x 218) × Not x 219) × Not x 220) × Not x 221
+      → (((((((((((((B × Not x 208) × Not x 209) × Not x 210) × Not x 211) × Not x 212) × Not x 213) × Not x 214)
+      × Not x 215) × Not x 216) × Not x 217) × Not x 218) × Not x 219) × Not x 220) × Not x 221
       → branchElse h ≡ Undefined
   is-none x told n = by-format (eqb (field h 13 3) 6) refl
     where
       past : 208 ≤ x → 222 ≤ x
       past p =
-          skip 221 (skip 220 (skip 219 (skip 218 (skip 217 (skip 216 (skip 215 (skip 214 (skip 213 (skip 212 (skip 211 (skip 210 (skip 209 (skip 208 p
-          (n .0 .0 .0 .0 .0 .0 .0 .0 .0 .0 .0 .0 .0 .1)) (n .0 .0 .0 .0 .0 .0 .0 .0 .0 .0 .0 .0 .1)) (n .0 .0 .0 .0 .0 .0 .0 .0 .0 .0 .0 .1)) (n .0 .0 .0 .0 .0 .0 .0 .0 .0 .0 .1))
-          (n .0 .0 .0 .0 .0 .0 .0 .0 .0 .1)) (n .0 .0 .0 .0 .0 .0 .0 .0 .1)) (n .0 .0 .0 .0 .0 .0 .0 .1)) (n .0 .0 .0 .0 .0 .0 .1)) (n .0 .0 .0 .0 .0 .1)) (n .0 .0 .0 .0 .1))
-          (n .0 .0 .0 .1)) (n .0 .0 .1)) (n .0 .1)) (n .1)
+          search (
+            skip 208,
+            skip 209,
+            skip 210,
+            skip 211,
+            skip 212,
+            skip 213,
+            skip 214,
+            skip 215,
+            skip 216,
+            skip 217,
+            skip 218,
+            skip 219,
+            skip 220,
+            skip 221,
+          ) depth 16
 
-      by-condition : field h 13 3 ≡ 6 → field h 12 1 ≡ 1 → (t : Bool) → ltb (field h 8 4) 14 ≡ t → branchElse h ≡ Undefined
+      by-condition : field h 13 3 ≡ 6 → field h 12 1 ≡ 1 → (t : Bool) → ltb (field h 8 4) 14 ≡ t
+          → branchElse h ≡ Undefined
       by-condition f g true e =
           let small : field h 8 4 < 14 = ltb-true (field h 8 4) 14 e in
           let is : x ≡ 208 + field h 8 4 = told ∙ upper-is f g in

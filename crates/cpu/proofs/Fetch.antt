@@ -21,14 +21,19 @@ use Rattle.cpu.proofs.Access.{Gave, stays}
 abbrev pub toldStep : Machine → List ℕ → ℕ → List ℕ → Told
 toldStep m memory = telling (stepOf m memory) (decodedTraffic (fetched m memory) m)
 
-module _ (regs memory log : List ℕ) (k : Control) (step : ℕ) (whole : Whole regs) (right : length memory ≡ memoryBytes) where
-  pub odd : (e : Executed) → (k .pc % 2 ≡ 0 → ⊥) → Gave e k (Stopped 18) → Leads regs e memory log (toldStep (held regs k) memory step log)
+module _ (regs memory log : List ℕ) (k : Control) (step : ℕ) where
+  pub odd : {e : Executed} → Whole regs → length memory ≡ memoryBytes → (k .pc % 2 ≡ 0 → ⊥) → Gave e k (Stopped 18)
+      → Leads regs e memory log (toldStep (held regs k) memory step log)
   unfolding stepOf fetchAndExecute
-  odd e test gave =
-      simp (eq-eqb (length memory) memoryBytes right, pc-is regs (k .pc) whole, ne-eqb (k .pc % 2) 0 test) (stays regs memory log e k 18 gave whole)
+  odd whole right test gave =
+      simp (eq-eqb (length memory) memoryBytes right, pc-is regs (k .pc) whole, ne-eqb (k .pc % 2) 0 test)
+      (stays memory log gave whole)
 
-  pub even : (h : ℕ) (regs′ memory′ log′ : List ℕ) (e : Executed) → k .pc % 2 ≡ 0 → h ≡ halfwordAt memory (k .pc)
-      → Leads regs′ e memory′ log′ (toldDecoded (decodeOf h) (held regs k) memory step log) → Leads regs′ e memory′ log′ (toldStep (held regs k) memory step log)
+  pub even : {h : ℕ} {regs′ memory′ log′ : List ℕ} {e : Executed} → Whole regs → length memory ≡ memoryBytes
+      → k .pc % 2 ≡ 0 → h ≡ halfwordAt memory (k .pc)
+      → Leads regs′ e memory′ log′ (toldDecoded (decodeOf h) (held regs k) memory step log)
+      → Leads regs′ e memory′ log′ (toldStep (held regs k) memory step log)
   unfolding stepOf fetchAndExecute fetched
-  even h regs′ memory′ log′ e test loaded done =
-      simp (eq-eqb (length memory) memoryBytes right, pc-is regs (k .pc) whole, eq-eqb (k .pc % 2) 0 test, ← loaded) done
+  even whole right test loaded done =
+      simp (eq-eqb (length memory) memoryBytes right, pc-is regs (k .pc) whole, eq-eqb (k .pc % 2) 0 test, ← loaded)
+      done

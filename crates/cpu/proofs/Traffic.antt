@@ -27,7 +27,10 @@ none-small = omega arith
 touching-small : (access : Access) (a : ByteAddress) → a .0 < memoryBytes → Small (touching access a)
 touching-small access a small = go (eqb (access .size) 0) (access .stores) (eqb (access .size) 1)
   where
-    go : (none stores one : Bool) → Small (cond none NoData (cond stores (cond one (WroteByte a) (WroteHalfword a)) (cond one (ReadByte a) (ReadHalfword a))))
+    go : (none stores one : Bool)
+        → Small
+        (cond none NoData
+        (cond stores (cond one (WroteByte a) (WroteHalfword a)) (cond one (ReadByte a) (ReadHalfword a))))
     go true stores one = none-small
     go false true true = small
     go false true false = small
@@ -46,4 +49,5 @@ told-small (Refused r) t small = none-small
 
 pub step-small : (m : Machine) (memory : List ℕ) → Small (stepTraffic m memory)
 unfolding stepTraffic
-step-small m memory = told-small (stepOf m memory .outcome) (decodedTraffic (fetched m memory) m) (decoded-small (fetched m memory) m)
+step-small m memory =
+    told-small (stepOf m memory .outcome) (decodedTraffic (fetched m memory) m) (decoded-small (fetched m memory) m)

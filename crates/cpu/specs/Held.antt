@@ -74,13 +74,15 @@ pub record Leads (regs : List ℕ) (e : Executed) (memory log : List ℕ) (q : T
 -- what a halfword does that leaves registers, memory and log alone, whatever they are
 abbrev pub Beside : Executed → Control → Decoded → Type 0
 Beside e k d =
-    (regs memory log : List ℕ) (step : ℕ) → Whole regs → Leads regs e memory log (toldDecoded d (held regs k) memory step log)
+    (regs memory log : List ℕ) (step : ℕ) → Whole regs
+    → Leads regs e memory log (toldDecoded d (held regs k) memory step log)
 
 -- what a branch leaves beside the registers, taken or not
 abbrev pub branched : Bool → ℕ → Control → Control
 branched holds offset k = moved (cond holds (branchTargetOf (record { 0 = k .pc }) offset .0) (wrap (k .pc + 2))) k
 
--- what a halfword says where all formats but the branch's have been looked at, and where all but those of registers are left
+-- what a halfword says where all formats but the branch's have been looked at, and where all but those of registers
+-- are left
 abbrev pub branchElse : ℕ → Decoded
 branchElse h = only (eqb (field h 13 3) 6) (branchOf h)
 

@@ -1,4 +1,5 @@
--- The machine ("One step", and Change 1): sixteen 16-bit registers, the flags N, Z, C, V, and the note that HALT leaves. R15 is the PC.
+-- The machine ("One step", and Change 1): sixteen 16-bit registers, the flags N, Z, C, V, and the note that HALT
+-- leaves. R15 is the PC.
 use mathlib.Core.List.{List}
 use Prim.Native.Nat.{ℕ, _+_}
 use lib.ListN.{getD, set}
@@ -29,7 +30,8 @@ updated m regs f = machine regs f (m .note)
 abbrev pub withNote : ℕ → Machine → Machine
 withNote note m = machine (m .regs) (flags m) note
 
--- the registers when the PC has moved on to the next instruction; from the last halfword of memory it goes round to the first
+-- the registers when the PC has moved on to the next instruction; from the last halfword of memory it goes round to
+-- the first
 abbrev pub advanced : List ℕ → List ℕ
 advanced regs = set regs 15 (wrap (getD regs 15 0 + 2))
 

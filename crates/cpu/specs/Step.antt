@@ -12,7 +12,9 @@ use Rattle.isa.specs.Decode.{decodeOf}
 use Rattle.isa.specs.declared.decoder.Decoded.{Decoded}
 use Rattle.isa.specs.declared.decoder.Decoded.the-variants.{Defined, Undefined}
 use Rattle.isa.specs.declared.instruction.Instruction.{Instruction}
-use Rattle.isa.specs.declared.instruction.Instruction.the-variants.{MovImm, CmpImm, And, Eor, Asr, Tst, Neg, Cmp, AddHigh, CmpHigh, MovHigh, Str, Ldr, Strb, Ldrb, AddPc, Branch, Halt}
+use Rattle.isa.specs.declared.instruction.Instruction.the-variants.{MovImm, CmpImm, And, Eor, Asr, Tst, Neg, Cmp}
+use Rattle.isa.specs.declared.instruction.Instruction.the-variants.{AddHigh, CmpHigh, MovHigh, Str, Ldr, Strb, Ldrb}
+use Rattle.isa.specs.declared.instruction.Instruction.the-variants.{AddPc, Branch, Halt}
 use Rattle.cpu.specs.declared.machine.Machine.{Machine}
 use Rattle.cpu.specs.declared.outcome.Outcome.{Outcome}
 use Rattle.cpu.specs.declared.outcome.Outcome.the-variants.{Completed, Halted, Stopped, Refused}
@@ -69,7 +71,9 @@ asrOf rs rd m =
 unfoldable pub branchOf : ℕ → ℕ → Machine → Machine
 branchOf condition offset m =
     updated m
-    (cond (conditionOf condition (flags m)) (set (m .regs) 15 (branchTargetOf (record { 0 = pc m }) offset .0)) (advanced (m .regs)))
+    (cond (conditionOf condition (flags m))
+    (set (m .regs) 15 (branchTargetOf (record { 0 = pc m }) offset .0))
+    (advanced (m .regs)))
     (flags m)
 
 -- a comparison of a with b: only the flags of a - b
@@ -104,7 +108,9 @@ aligned a = eqb (a % 4) 0
 unfoldable pub ldrOf : ℕ → ℕ → ℕ → Machine → List ℕ → StepResult
 ldrOf offset rb rd m memory =
     let a = effectiveAddress m rb (4 * offset) in
-    cond (aligned a) (completed (updated m (written (m .regs) rd (halfwordAt memory a)) (flags m)) memory) (stopped 20 m memory)
+    cond (aligned a)
+    (completed (updated m (written (m .regs) rd (halfwordAt memory a)) (flags m)) memory)
+    (stopped 20 m memory)
 
 -- LDRB: one byte, the upper half of Rd 0; no flag
 unfoldable pub ldrbOf : ℕ → ℕ → ℕ → Machine → List ℕ → Machine
@@ -127,7 +133,9 @@ negOf rs rd m = updated m (written (m .regs) rd (differenceOf 0 (reg m rs))) (di
 unfoldable pub strOf : ℕ → ℕ → ℕ → Machine → List ℕ → StepResult
 strOf offset rb rd m memory =
     let a = effectiveAddress m rb (4 * offset) in
-    cond (aligned a) (completed (updated m (advanced (m .regs)) (flags m)) (withHalfword memory a (reg m rd))) (stopped 20 m memory)
+    cond (aligned a)
+    (completed (updated m (advanced (m .regs)) (flags m)) (withHalfword memory a (reg m rd)))
+    (stopped 20 m memory)
 
 -- STRB: the low byte of Rd; no flag
 unfoldable pub strbOf : ℕ → ℕ → ℕ → Machine → List ℕ → StepResult

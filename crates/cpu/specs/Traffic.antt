@@ -1,4 +1,5 @@
--- What a step touches in memory (Change 2): data that it reads or writes, or none. The halfword that it fetches is no data.
+-- What a step touches in memory (Change 2): data that it reads or writes, or none. The halfword that it fetches is no
+-- data.
 use mathlib.Core.Bool.{cond}
 use mathlib.Core.List.{List}
 use Prim.Native.Nat.{ℕ}
@@ -27,7 +28,9 @@ abbrev pub storeAt : ℕ → ByteAddress → Traffic
 storeAt size a = cond (eqb size 1) (WroteByte a) (WroteHalfword a)
 
 abbrev pub touching : Access → ByteAddress → Traffic
-touching access a = cond (eqb (access .size) 0) NoData (cond (access .stores) (storeAt (access .size) a) (loadAt (access .size) a))
+touching access a =
+    cond (eqb (access .size) 0) NoData
+    (cond (access .stores) (storeAt (access .size) a) (loadAt (access .size) a))
 
 -- an instruction that completes touches its data
 abbrev pub trafficOf : Instruction → Machine → Traffic

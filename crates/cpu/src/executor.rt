@@ -77,7 +77,9 @@ fn execute_other(
     h: u16,
 ) -> Executed
     requires { ⌜ Whole (now regs) × (length (now memory) ≡ memoryBytes) ⌝ }
-    ensures { λ r. ⌜ Leads (now (regs .exit)) r (now (memory .exit)) (now (log .exit)) (toldDecoded (otherElse h) (held (now (regs .entry)) k) (now (memory .entry)) step (now (log .entry))) ⌝ }
+    ensures { λ r. ⌜
+        Leads (now (regs .exit)) r (now (memory .exit)) (now (log .exit))
+        (toldDecoded (otherElse h) (held (now (regs .entry)) k) (now (memory .entry)) step (now (log .entry))) ⌝ }
 {
     match bits(h, 11, 5) {
         0 => execute_halt(k, h),
@@ -102,7 +104,9 @@ fn execute(
     h: u16,
 ) -> Executed
     requires { ⌜ Whole (now regs) × (length (now memory) ≡ memoryBytes) ⌝ }
-    ensures { λ r. ⌜ Leads (now (regs .exit)) r (now (memory .exit)) (now (log .exit)) (toldDecoded (decodeOf h) (held (now (regs .entry)) k) (now (memory .entry)) step (now (log .entry))) ⌝ }
+    ensures { λ r. ⌜
+        Leads (now (regs .exit)) r (now (memory .exit)) (now (log .exit))
+        (toldDecoded (decodeOf h) (held (now (regs .entry)) k) (now (memory .entry)) step (now (log .entry))) ⌝ }
 {
     match h >> 6 {
         0x100 => completed(instructions::and(regs, k, h)),
@@ -137,7 +141,12 @@ pub fn fetch_and_execute(
     step: u32,
 ) -> Executed
     requires { ⌜ Whole (now regs) × (length (now memory) ≡ memoryBytes) ⌝ }
-    ensures { λ r. ⌜ (stepResult (held (now (regs .exit)) (r .control)) (now (memory .exit)) (r .outcome) ≡ unnoted (stepOf (held (now (regs .entry)) k) (now (memory .entry)))) × (now (log .exit) ≡ logged step (stepTraffic (held (now (regs .entry)) k) (now (memory .entry))) (now (log .entry))) × Whole (now (regs .exit)) ⌝ }
+    ensures { λ r. ⌜
+        (stepResult (held (now (regs .exit)) (r .control)) (now (memory .exit)) (r .outcome)
+        ≡ unnoted (stepOf (held (now (regs .entry)) k) (now (memory .entry))))
+        × (now (log .exit)
+        ≡ logged step (stepTraffic (held (now (regs .entry)) k) (now (memory .entry))) (now (log .entry)))
+        × Whole (now (regs .exit)) ⌝ }
 {
     if k.pc % 2 != 0 {
         return stopped(k, ODD_PC);

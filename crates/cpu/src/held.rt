@@ -60,7 +60,8 @@ pub(crate) fn advance(k: Control) -> Control
 // Ends an instruction that has a result for one of R0 to R7.
 pub(crate) fn write_low(regs: &mut [u16; 16], k: Control, rd: u8, x: u16) -> Control
     requires { ⌜ Whole (now regs) × (rd < 8) ⌝ }
-    ensures { λ r. ⌜ Holds (now (regs .exit)) r (bare (written (set (now (regs .entry)) 15 (k .pc)) rd x) (flagsIn k)) ⌝ }
+    ensures { λ r. ⌜
+        Holds (now (regs .exit)) r (bare (written (set (now (regs .entry)) 15 (k .pc)) rd x) (flagsIn k)) ⌝ }
 {
     regs[rd as usize] = x;
     advance(k)
@@ -71,7 +72,8 @@ pub(crate) fn write_low(regs: &mut [u16; 16], k: Control, rd: u8, x: u16) -> Con
 // between the two PCs with no jump, and each fetch waits for the result.
 pub(crate) fn write(regs: &mut [u16; 16], k: Control, rd: u8, x: u16) -> Control
     requires { ⌜ Whole (now regs) × (rd < 16) ⌝ }
-    ensures { λ r. ⌜ Holds (now (regs .exit)) r (bare (written (set (now (regs .entry)) 15 (k .pc)) rd x) (flagsIn k)) ⌝ }
+    ensures { λ r. ⌜
+        Holds (now (regs .exit)) r (bare (written (set (now (regs .entry)) 15 (k .pc)) rd x) (flagsIn k)) ⌝ }
 {
     if rd == 15 {
         move_to(x, k)

@@ -37,7 +37,8 @@ ghost use lib.ListN.{getD, length, set};
 ghost use Rattle.units.specs.Address.{wrap, memoryBytes};
 ghost use Rattle.units.specs.Field.{field, highRs, highRd};
 ghost use Rattle.isa.specs.declared.instruction.Instruction.the-variants.{Str, Ldr, Strb, Ldrb};
-ghost use Rattle.cpu.specs.Step.{resulting, addHighOf, addPcOf, andOf, asrOf, cmpImmOf, cmpOf, cmpHighOf, eorOf, movImmOf, movHighOf, negOf, tstOf};
+ghost use Rattle.cpu.specs.Step.{resulting, addHighOf, addPcOf, andOf, asrOf, cmpImmOf, cmpOf, cmpHighOf, eorOf};
+ghost use Rattle.cpu.specs.Step.{movImmOf, movHighOf, negOf, tstOf};
 ghost use Rattle.cpu.specs.Held.{held, branched, toldOf, Whole, Holds, Leads};
 
 // Puts the PC where ADD, CMP and MOV find it when they name R15: the address of
@@ -178,7 +179,10 @@ pub(crate) fn ldr(
     h: u16,
 ) -> Executed
     requires { ⌜ Whole (now regs) × (length (now memory) ≡ memoryBytes) ⌝ }
-    ensures { λ r. ⌜ Leads (now (regs .exit)) r (now (memory .entry)) (now (log .exit)) (toldOf (Ldr (field h 6 5) (field h 3 3) (field h 0 3)) (held (now (regs .entry)) k) (now (memory .entry)) step (now (log .entry))) ⌝ }
+    ensures { λ r. ⌜
+        Leads (now (regs .exit)) r (now (memory .entry)) (now (log .exit))
+        (toldOf (Ldr (field h 6 5) (field h 3 3) (field h 0 3)) (held (now (regs .entry)) k)
+        (now (memory .entry)) step (now (log .entry))) ⌝ }
 {
     let a = effective_address(regs, h, 4 * (bits(h, 6, 5) as u16));
     if a % 4 != 0 {
@@ -199,7 +203,10 @@ pub(crate) fn ldrb(
     h: u16,
 ) -> Executed
     requires { ⌜ Whole (now regs) × (length (now memory) ≡ memoryBytes) ⌝ }
-    ensures { λ r. ⌜ Leads (now (regs .exit)) r (now (memory .entry)) (now (log .exit)) (toldOf (Ldrb (field h 6 5) (field h 3 3) (field h 0 3)) (held (now (regs .entry)) k) (now (memory .entry)) step (now (log .entry))) ⌝ }
+    ensures { λ r. ⌜
+        Leads (now (regs .exit)) r (now (memory .entry)) (now (log .exit))
+        (toldOf (Ldrb (field h 6 5) (field h 3 3) (field h 0 3)) (held (now (regs .entry)) k)
+        (now (memory .entry)) step (now (log .entry))) ⌝ }
 {
     let a = effective_address(regs, h, bits(h, 6, 5) as u16);
     let x = load_byte(memory, a as usize);
@@ -254,7 +261,10 @@ pub(crate) fn str(
     h: u16,
 ) -> Executed
     requires { ⌜ Whole (now regs) × (length (now memory) ≡ memoryBytes) ⌝ }
-    ensures { λ r. ⌜ Leads (now (regs .entry)) r (now (memory .exit)) (now (log .exit)) (toldOf (Str (field h 6 5) (field h 3 3) (field h 0 3)) (held (now (regs .entry)) k) (now (memory .entry)) step (now (log .entry))) ⌝ }
+    ensures { λ r. ⌜
+        Leads (now (regs .entry)) r (now (memory .exit)) (now (log .exit))
+        (toldOf (Str (field h 6 5) (field h 3 3) (field h 0 3)) (held (now (regs .entry)) k)
+        (now (memory .entry)) step (now (log .entry))) ⌝ }
 {
     let a = effective_address(regs, h, 4 * (bits(h, 6, 5) as u16));
     if a % 4 != 0 {
@@ -276,7 +286,10 @@ pub(crate) fn strb(
     h: u16,
 ) -> Executed
     requires { ⌜ Whole (now regs) × (length (now memory) ≡ memoryBytes) ⌝ }
-    ensures { λ r. ⌜ Leads (now (regs .entry)) r (now (memory .exit)) (now (log .exit)) (toldOf (Strb (field h 6 5) (field h 3 3) (field h 0 3)) (held (now (regs .entry)) k) (now (memory .entry)) step (now (log .entry))) ⌝ }
+    ensures { λ r. ⌜
+        Leads (now (regs .entry)) r (now (memory .exit)) (now (log .exit))
+        (toldOf (Strb (field h 6 5) (field h 3 3) (field h 0 3)) (held (now (regs .entry)) k)
+        (now (memory .entry)) step (now (log .entry))) ⌝ }
 {
     let a = effective_address(regs, h, bits(h, 6, 5) as u16);
     let x = regs[bits(h, 0, 3) as usize];

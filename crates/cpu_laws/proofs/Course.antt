@@ -29,7 +29,8 @@ first-or-last (suc k) s = ap nextState (first-or-last k s)
 Found : ℕ → ℕ → State → RunResult → Type 0
 Found budget count s r = (steps : ℕ) × (r .count ≡ steps + count) × Course budget s r steps
 
-none : (budget count : ℕ) (s : State) (o : Outcome) (q : RunOutcome) (t : State) → outcomeAt s ≡ o → EndsAs o q → t ≡ finalState q s
+none : (budget count : ℕ) (s : State) (o : Outcome) (q : RunOutcome) (t : State)
+    → outcomeAt s ≡ o → EndsAs o q → t ≡ finalState q s
     → Found (suc budget) count s (record { state = t; outcome = q; count = count })
 unfolding Found stateAfter
 none budget count s o q t e ends still = (
@@ -43,7 +44,8 @@ none budget count s o q t e ends still = (
   },
 )
 
-more : (budget count : ℕ) (s : State) (r : RunResult) → outcomeAt s ≡ Completed → Found budget (count + 1) (nextState s) r → Found (suc budget) count s r
+more : (budget count : ℕ) (s : State) (r : RunResult) → outcomeAt s ≡ Completed
+    → Found budget (count + 1) (nextState s) r → Found (suc budget) count s r
 unfolding Found stateAfter
 more budget count s r e (steps, counted, course) = (
   suc steps,
@@ -52,28 +54,34 @@ more budget count s r e (steps, counted, course) = (
     within = omega (arith, course .within);
     last = course .last ∙ ap (finalState (r .outcome)) (first-or-last steps s);
     completed = earlier;
-    end = ⊎-elim (λ p. inl (p .0, ap suc (p .1)))
-        (λ p. inr (omega arith, subst (λ (t : State). EndsAs (outcomeAt t) (r .outcome)) (first-or-last steps s) (p .1))) (course .end);
+    end = ⊎-elim (λ p. inl (p .0, ap suc (p .1))) (λ p. inr (omega arith, later (p .1))) (course .end);
   },
 )
   where
+    later : EndsAs (outcomeAt (stateAfter steps (nextState s))) (r .outcome)
+        → EndsAs (outcomeAt (stateAfter (suc steps) s)) (r .outcome)
+    later ends = subst (λ (t : State). EndsAs (outcomeAt t) (r .outcome)) (first-or-last steps s) ends
+
     earlier : (k : ℕ) → k < suc steps → outcomeAt (stateAfter k s) ≡ Completed
     earlier zero l = e
     earlier (suc k) l =
         subst (λ (t : State). outcomeAt t ≡ Completed) (first-or-last k s) (course .completed k (le-of-suc-le-suc l))
 
 still : (s : State) (o : Outcome) → outcomeAt s ≡ o → (o ≡ Completed → ⊥) → (o ≡ Halted → ⊥) → nextState s ≡ s
-still s o e other on = ⊎-elim (λ q. absurd (other (sym e ∙ q))) (⊎-elim (λ q. absurd (on (sym e ∙ q .0))) (λ q. q)) (step-whole s)
+still s o e other on =
+    ⊎-elim (λ q. absurd (other (sym e ∙ q))) (⊎-elim (λ q. absurd (on (sym e ∙ q .0))) (λ q. q)) (step-whole s)
 
 -- by how the next step ends
-turn : (budget count : ℕ) (s : State) (o : Outcome) (rest : RunResult) → outcomeAt s ≡ o → Found budget (count + 1) (nextState s) rest
-    → Found (suc budget) count s (goOn o (nextState s) count rest)
+turn : (budget count : ℕ) (s : State) (o : Outcome) (rest : RunResult) → outcomeAt s ≡ o
+    → Found budget (count + 1) (nextState s) rest → Found (suc budget) count s (goOn o (nextState s) count rest)
 turn budget count s Completed rest e found = more budget count s rest e found
 turn budget count s Halted rest e found = none budget count s Halted run.Halted (nextState s) e refl (note-set s e)
 turn budget count s (Stopped n) rest e found =
-    none budget count s (Stopped n) (run.Stopped n) (nextState s) e refl (still s (Stopped n) e (stopped-not-completed n) (stopped-not-halted n))
+    none budget count s (Stopped n) (run.Stopped n) (nextState s) e refl
+    (still s (Stopped n) e (stopped-not-completed n) (stopped-not-halted n))
 turn budget count s (Refused q) rest e found =
-    none budget count s (Refused q) (run.Refused q) (nextState s) e refl (still s (Refused q) e (refused-not-completed q) (refused-not-halted q))
+    none budget count s (Refused q) (run.Refused q) (nextState s) e refl
+    (still s (Refused q) e (refused-not-completed q) (refused-not-halted q))
 
 from : (budget count : ℕ) (s : State) → Found budget count s (runFrom budget count s)
 unfolding Found runFrom stateAfter
@@ -88,18 +96,22 @@ from zero count s = (
   },
 )
 from (suc budget) count s =
-    turn budget count s (outcomeAt s) (runFrom budget (count + 1) (nextState s)) refl (from budget (count + 1) (nextState s))
+    turn budget count s (outcomeAt s) (runFrom budget (count + 1) (nextState s)) refl
+    (from budget (count + 1) (nextState s))
 
 pub run-course : RunCourse
 unfolding Found runOf
 run-course budget m memory right =
-    let found = from budget 0 (state m memory) in
-    let n : found .0 ≡ runFrom budget 0 (state m memory) .count = omega (arith, found .1) in
-    simp (eq-eqb (length memory) memoryBytes right) (subst (λ (steps : ℕ). Course budget (state m memory) (runFrom budget 0 (state m memory)) steps) n (found .2))
+    let s : State = state m memory in
+    let r : RunResult = runFrom budget 0 s in
+    let found = from budget 0 s in
+    let n : found .0 ≡ r .count = omega (arith, found .1) in
+    simp (eq-eqb (length memory) memoryBytes right) (subst (λ (steps : ℕ). Course budget s r steps) n (found .2))
 
 -- what holds at the start, and after each step that completes from where it holds, holds at every state of the course
 module _ (P : State → Type 0) (kept : (s : State) → P s → outcomeAt s ≡ Completed → P (nextState s)) where
-  course-keeps : (budget : ℕ) (s : State) (r : RunResult) (steps : ℕ) → Course budget s r steps → P s → (k : ℕ) → k ≤ steps → P (stateAfter k s)
+  course-keeps : (budget : ℕ) (s : State) (r : RunResult) (steps : ℕ) → Course budget s r steps → P s
+      → (k : ℕ) → k ≤ steps → P (stateAfter k s)
   unfolding stateAfter
   course-keeps budget s r steps course start zero l = start
   course-keeps budget s r steps course start (suc k) l =
@@ -108,4 +120,4 @@ module _ (P : State → Type 0) (kept : (s : State) → P s → outcomeAt s ≡ 
   pub run-keeps : (budget : ℕ) (m : Machine) (memory : List ℕ) → length memory ≡ memoryBytes → P (state m memory)
       → (k : ℕ) → k ≤ runOf budget m memory .count → P (stateAfter k (state m memory))
   run-keeps budget m memory right start =
-      course-keeps budget (state m memory) (runOf budget m memory) (runOf budget m memory .count) (run-course budget m memory right) start
+      course-keeps budget (state m memory) (runOf budget m memory) _ (run-course budget m memory right) start

@@ -19,7 +19,8 @@ set-here l k d x s = go (decLt d (length l))
         rw (set-out l d x p, set-out k d x q) (List·getD-eq-default l 0 p ∙ sym (List·getD-eq-default k 0 q))
 
 -- and wherever they agreed before
-pub set-alike : (l k : List ℕ) (d x i : ℕ) → length l ≡ length k → getD l i 0 ≡ getD k i 0 → getD (set l d x) i 0 ≡ getD (set k d x) i 0
+pub set-alike : (l k : List ℕ) (d x i : ℕ) → length l ≡ length k → getD l i 0 ≡ getD k i 0
+    → getD (set l d x) i 0 ≡ getD (set k d x) i 0
 set-alike l k d x i s h = go (ℕ-discrete i d)
   where
     go : Dec (i ≡ d) → getD (set l d x) i 0 ≡ getD (set k d x) i 0

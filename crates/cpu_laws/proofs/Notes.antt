@@ -20,9 +20,12 @@ note-set s e = ap (λ (r : StepResult). r .state) (halted-step (s .machine) (s .
 
 -- a step from the note that is there is the step
 pub note-kept : NoteKept
-note-kept s other = ap (λ (r : StepResult). r .state .machine .note) (step-note (s .machine .note) (s .machine) (s .memory)) ∙ kept (outcomeAt s) other
+note-kept s other =
+    ap (λ (r : StepResult). r .state .machine .note) (step-note (s .machine .note) (s .machine) (s .memory))
+    ∙ kept (outcomeAt s) other
   where
-    kept : (o : Outcome) → (o ≡ Halted → ⊥) → keeping o (s .machine .note) (nextState s .machine) .note ≡ s .machine .note
+    kept : (o : Outcome) → (o ≡ Halted → ⊥)
+        → keeping o (s .machine .note) (nextState s .machine) .note ≡ s .machine .note
     kept Completed other = refl
     kept Halted other = absurd (other refl)
     kept (Stopped number) other = refl
@@ -30,7 +33,8 @@ note-kept s other = ap (λ (r : StepResult). r .state .machine .note) (step-note
 
 -- and so of a run
 left : (budget : ℕ) (m : Machine) (memory : List ℕ)
-    → runOf budget m memory .state .machine .note ≡ noteLeft (runOf budget m memory .outcome) (lowByte (runOf budget m memory .state)) (m .note)
+    → runOf budget m memory .state .machine .note
+    ≡ noteLeft (runOf budget m memory .outcome) (lowByte (runOf budget m memory .state)) (m .note)
 left budget m memory = ap (λ (r : RunResult). r .state .machine .note) (run-noted (m .note) budget m memory)
 
 pub run-note-set : RunNoteSet
@@ -40,7 +44,8 @@ run-note-set budget m memory e =
 pub run-note-kept : RunNoteKept
 run-note-kept budget m memory other = left budget m memory ∙ kept (runOf budget m memory .outcome) other
   where
-    kept : (o : RunOutcome) → (o ≡ run.Halted → ⊥) → noteLeft o (lowByte (runOf budget m memory .state)) (m .note) ≡ m .note
+    kept : (o : RunOutcome) → (o ≡ run.Halted → ⊥)
+        → noteLeft o (lowByte (runOf budget m memory .state)) (m .note) ≡ m .note
     kept run.Spent other = refl
     kept run.Halted other = absurd (other refl)
     kept (run.Stopped number) other = refl

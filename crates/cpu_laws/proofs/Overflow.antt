@@ -16,64 +16,50 @@ too-low p q l = simp (lt-leb q p l)
 too-high : (p q : ℕ) → q + 65536 ≤ p → fits p q ≡ false
 too-high p q l = let m : q ≤ p = omega arith in simp (le-leb q p m, le-ltb p (q + 65536) l)
 
-module _ (a b : ℕ) (la : a < 65536) (lb : b < 65536) where
-  sum-v : sumFlags a b .v ≡ not (fits (raised a + raised b) 32768)
-  sum-v = go (negative a) (negative b) (negative (sumOf a b)) refl refl refl
-    where
-      go : (s t u : Bool) → negative a ≡ s → negative b ≡ t → negative (sumOf a b) ≡ u → sumFlags a b .v ≡ not (fits (raised a + raised b) 32768)
-      go true true true e f g =
-          let p : 32768 ≤ a = leb-true 32768 a e in let q : 32768 ≤ b = leb-true 32768 b f in let r : 32768 ≤ sumOf a b = leb-true 32768 (sumOf a b) g in
-          simp (e, f, g, fits-so (raised a + raised b) 32768 (omega arith) (omega arith))
-      go true true false e f g =
-          let p : 32768 ≤ a = leb-true 32768 a e in let q : 32768 ≤ b = leb-true 32768 b f in let r : sumOf a b < 32768 = leb-false 32768 (sumOf a b) g in
-          simp (e, f, g, too-low (raised a + raised b) 32768 (omega arith))
-      go true false true e f g =
-          let p : 32768 ≤ a = leb-true 32768 a e in let q : b < 32768 = leb-false 32768 b f in let r : 32768 ≤ sumOf a b = leb-true 32768 (sumOf a b) g in
-          simp (e, f, g, fits-so (raised a + raised b) 32768 (omega arith) (omega arith))
-      go true false false e f g =
-          let p : 32768 ≤ a = leb-true 32768 a e in let q : b < 32768 = leb-false 32768 b f in let r : sumOf a b < 32768 = leb-false 32768 (sumOf a b) g in
-          simp (e, f, g, fits-so (raised a + raised b) 32768 (omega arith) (omega arith))
-      go false true true e f g =
-          let p : a < 32768 = leb-false 32768 a e in let q : 32768 ≤ b = leb-true 32768 b f in let r : 32768 ≤ sumOf a b = leb-true 32768 (sumOf a b) g in
-          simp (e, f, g, fits-so (raised a + raised b) 32768 (omega arith) (omega arith))
-      go false true false e f g =
-          let p : a < 32768 = leb-false 32768 a e in let q : 32768 ≤ b = leb-true 32768 b f in let r : sumOf a b < 32768 = leb-false 32768 (sumOf a b) g in
-          simp (e, f, g, fits-so (raised a + raised b) 32768 (omega arith) (omega arith))
-      go false false true e f g =
-          let p : a < 32768 = leb-false 32768 a e in let q : b < 32768 = leb-false 32768 b f in let r : 32768 ≤ sumOf a b = leb-true 32768 (sumOf a b) g in
-          simp (e, f, g, too-high (raised a + raised b) 32768 (omega arith))
-      go false false false e f g =
-          let p : a < 32768 = leb-false 32768 a e in let q : b < 32768 = leb-false 32768 b f in let r : sumOf a b < 32768 = leb-false 32768 (sumOf a b) g in
-          simp (e, f, g, fits-so (raised a + raised b) 32768 (omega arith) (omega arith))
+-- what a sign tells
+abbrev Signed : Bool → ℕ → Type 0
+Signed true x = 32768 ≤ x
+Signed false x = x < 32768
 
-  difference-v : differenceFlags a b .v ≡ not (fits (raised a + 32768) (raised b))
-  difference-v = go (negative a) (negative b) (negative (differenceOf a b)) refl refl refl
+signed : (x : ℕ) (t : Bool) → negative x ≡ t → Signed t x
+signed x true e = leb-true 32768 x e
+signed x false e = leb-false 32768 x e
+
+module _ (a b : ℕ) (la : a < 65536) (lb : b < 65536) where
+  abbrev total : ℕ
+  total = raised a + raised b
+
+  sum-v : sumFlags a b .v ≡ not (fits total 32768)
+  sum-v = go _ _ _ refl refl refl (signed a _ refl) (signed b _ refl) (signed (sumOf a b) _ refl)
     where
-      go : (s t u : Bool) → negative a ≡ s → negative b ≡ t → negative (differenceOf a b) ≡ u → differenceFlags a b .v ≡ not (fits (raised a + 32768) (raised b))
-      go true true true e f g =
-          let p : 32768 ≤ a = leb-true 32768 a e in let q : 32768 ≤ b = leb-true 32768 b f in let r : 32768 ≤ differenceOf a b = leb-true 32768 (differenceOf a b) g in
-          simp (e, f, g, fits-so (raised a + 32768) (raised b) (omega arith) (omega arith))
-      go true true false e f g =
-          let p : 32768 ≤ a = leb-true 32768 a e in let q : 32768 ≤ b = leb-true 32768 b f in let r : differenceOf a b < 32768 = leb-false 32768 (differenceOf a b) g in
-          simp (e, f, g, fits-so (raised a + 32768) (raised b) (omega arith) (omega arith))
-      go true false true e f g =
-          let p : 32768 ≤ a = leb-true 32768 a e in let q : b < 32768 = leb-false 32768 b f in let r : 32768 ≤ differenceOf a b = leb-true 32768 (differenceOf a b) g in
-          simp (e, f, g, fits-so (raised a + 32768) (raised b) (omega arith) (omega arith))
-      go true false false e f g =
-          let p : 32768 ≤ a = leb-true 32768 a e in let q : b < 32768 = leb-false 32768 b f in let r : differenceOf a b < 32768 = leb-false 32768 (differenceOf a b) g in
-          simp (e, f, g, too-low (raised a + 32768) (raised b) (omega arith))
-      go false true true e f g =
-          let p : a < 32768 = leb-false 32768 a e in let q : 32768 ≤ b = leb-true 32768 b f in let r : 32768 ≤ differenceOf a b = leb-true 32768 (differenceOf a b) g in
-          simp (e, f, g, too-high (raised a + 32768) (raised b) (omega arith))
-      go false true false e f g =
-          let p : a < 32768 = leb-false 32768 a e in let q : 32768 ≤ b = leb-true 32768 b f in let r : differenceOf a b < 32768 = leb-false 32768 (differenceOf a b) g in
-          simp (e, f, g, fits-so (raised a + 32768) (raised b) (omega arith) (omega arith))
-      go false false true e f g =
-          let p : a < 32768 = leb-false 32768 a e in let q : b < 32768 = leb-false 32768 b f in let r : 32768 ≤ differenceOf a b = leb-true 32768 (differenceOf a b) g in
-          simp (e, f, g, fits-so (raised a + 32768) (raised b) (omega arith) (omega arith))
-      go false false false e f g =
-          let p : a < 32768 = leb-false 32768 a e in let q : b < 32768 = leb-false 32768 b f in let r : differenceOf a b < 32768 = leb-false 32768 (differenceOf a b) g in
-          simp (e, f, g, fits-so (raised a + 32768) (raised b) (omega arith) (omega arith))
+      go : (s t u : Bool) → negative a ≡ s → negative b ≡ t → negative (sumOf a b) ≡ u
+          → Signed s a → Signed t b → Signed u (sumOf a b) → sumFlags a b .v ≡ not (fits total 32768)
+      go true true true e f g p q r = simp (e, f, g, fits-so total 32768 (omega arith) (omega arith))
+      go true true false e f g p q r = simp (e, f, g, too-low total 32768 (omega arith))
+      go true false true e f g p q r = simp (e, f, g, fits-so total 32768 (omega arith) (omega arith))
+      go true false false e f g p q r = simp (e, f, g, fits-so total 32768 (omega arith) (omega arith))
+      go false true true e f g p q r = simp (e, f, g, fits-so total 32768 (omega arith) (omega arith))
+      go false true false e f g p q r = simp (e, f, g, fits-so total 32768 (omega arith) (omega arith))
+      go false false true e f g p q r = simp (e, f, g, too-high total 32768 (omega arith))
+      go false false false e f g p q r = simp (e, f, g, fits-so total 32768 (omega arith) (omega arith))
+
+  abbrev wide : ℕ
+  wide = raised a + 32768
+
+  difference-v : differenceFlags a b .v ≡ not (fits wide (raised b))
+  difference-v = go _ _ _ refl refl refl (signed a _ refl) (signed b _ refl) (signed (differenceOf a b) _ refl)
+    where
+      go : (s t u : Bool) → negative a ≡ s → negative b ≡ t → negative (differenceOf a b) ≡ u
+          → Signed s a → Signed t b → Signed u (differenceOf a b)
+          → differenceFlags a b .v ≡ not (fits wide (raised b))
+      go true true true e f g p q r = simp (e, f, g, fits-so wide (raised b) (omega arith) (omega arith))
+      go true true false e f g p q r = simp (e, f, g, fits-so wide (raised b) (omega arith) (omega arith))
+      go true false true e f g p q r = simp (e, f, g, fits-so wide (raised b) (omega arith) (omega arith))
+      go true false false e f g p q r = simp (e, f, g, too-low wide (raised b) (omega arith))
+      go false true true e f g p q r = simp (e, f, g, too-high wide (raised b) (omega arith))
+      go false true false e f g p q r = simp (e, f, g, fits-so wide (raised b) (omega arith) (omega arith))
+      go false false true e f g p q r = simp (e, f, g, fits-so wide (raised b) (omega arith) (omega arith))
+      go false false false e f g p q r = simp (e, f, g, fits-so wide (raised b) (omega arith) (omega arith))
 
 pub sum-overflows : SumOverflows
 sum-overflows = sum-v

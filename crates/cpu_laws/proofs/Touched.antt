@@ -1,5 +1,5 @@
--- An instruction that completes changes only what it says it wrote, and what it does hangs on nothing of memory but what it says it read. A step adds the
--- halfword that it fetches.
+-- An instruction that completes changes only what it says it wrote, and what it does hangs on nothing of memory but
+-- what it says it read. A step adds the halfword that it fetches.
 use mathlib.Core.Bool.{Bool, true, false, cond, false≢true}
 use mathlib.Core.List.{List}
 use mathlib.Core.Logic.{_⊎_, inl, inr, ⊎-elim}
@@ -18,19 +18,33 @@ use Rattle.isa.specs.Decode.{decodeOf}
 use Rattle.isa.specs.declared.decoder.Decoded.{Decoded}
 use Rattle.isa.specs.declared.decoder.Decoded.the-variants.{Defined, Undefined}
 use Rattle.isa.specs.declared.instruction.Instruction.{Instruction}
-use Rattle.isa.specs.declared.instruction.Instruction.the-variants.{MovImm, CmpImm, And, Eor, Asr, Tst, Neg, Cmp, AddHigh, CmpHigh, MovHigh, Str, Ldr, Strb, Ldrb, AddPc, Branch, Halt}
+use Rattle.isa.specs.declared.instruction.Instruction.the-variants.{MovImm, CmpImm, And, Eor, Asr, Tst, Neg, Cmp}
+use Rattle.isa.specs.declared.instruction.Instruction.the-variants.{AddHigh, CmpHigh, MovHigh, Str, Ldr, Strb, Ldrb}
+use Rattle.isa.specs.declared.instruction.Instruction.the-variants.{AddPc, Branch, Halt}
 use Rattle.cpu.specs.declared.machine.Machine.{Machine}
 use Rattle.cpu.specs.declared.outcome.Outcome.{Outcome}
 use Rattle.cpu.specs.declared.outcome.Outcome.the-variants.{Refused}
 use Rattle.traffic.specs.declared.data.Traffic.{Traffic}
 use Rattle.traffic.specs.declared.data.Traffic.the-variants.{NoData}
 use Rattle.cpu.specs.Machine.{reg, pc, flags, updated, advanced, written}
-use Rattle.cpu.specs.Step.{StepResult, stepResult, completed, stopped, effectiveAddress, aligned, executeOf, executeDecoded, fetched, fetchAndExecute, stepOf, ldrOf, ldrbOf, strOf, strbOf}
+use Rattle.cpu.specs.Step.{StepResult, stepResult, completed, stopped, effectiveAddress, aligned, executeOf}
+use Rattle.cpu.specs.Step.{executeDecoded, fetched, fetchAndExecute, stepOf, ldrOf, ldrbOf, strOf, strbOf}
 use Rattle.traffic.specs.Data.{isWritten}
 use Rattle.cpu.specs.Traffic.{decodedTraffic, whenCompleted, stepTraffic}
 use Rattle.cpu.proofs.Endings.{cond-keeps}
-use Rattle.cpu_laws.specs.Touched.{Touches, Reads, DataInMemory, Keeps, StepKeeps, Agrees, Alike, StepAlike}
+use Rattle.cpu_laws.specs.Touched.{Touches, Reads, Writes, DataInMemory, Keeps, StepKeeps, Agrees, Alike}
+use Rattle.cpu_laws.specs.Touched.{StepAlike}
 use Rattle.cpu_laws.proofs.Lists.{set-here, set-alike}
+
+-- a halfword is stored at a multiple of 4, or stop 20 comes first
+abbrev stored : Machine → ℕ → ℕ → Bool → List ℕ → StepResult
+stored m a x t bytes =
+    cond t (completed (updated m (advanced (m .regs)) (flags m)) (withHalfword bytes a x)) (stopped 20 m bytes)
+
+-- a halfword is loaded, or stop 20 comes first
+abbrev loaded : Machine → ℕ → ℕ → Bool → List ℕ → StepResult
+loaded m rd a t bytes =
+    cond t (completed (updated m (written (m .regs) rd (halfwordAt bytes a)) (flags m)) bytes) (stopped 20 m bytes)
 
 -- ---- one memory
 
@@ -50,27 +64,29 @@ module _ (m : Machine) (memory : List ℕ) where
   quiet : Leaves memory NoData memory
   quiet = record { in-memory = λ a d. absurd (omega (arith, d .below)); keeps = same }
 
-  -- a halfword is stored at a multiple of 4, or stop 20 comes first
   str-tells : (offset rb rd : ℕ) → Tells (Defined (Str offset rb rd)) (strOf offset rb rd m memory)
   unfolding strOf
   str-tells offset rb rd = go (aligned (effectiveAddress m rb (4 * offset))) refl
     where
-      go : (t : Bool) → aligned (effectiveAddress m rb (4 * offset)) ≡ t
-          → Tells (Defined (Str offset rb rd))
-          (cond t (completed (updated m (advanced (m .regs)) (flags m)) (withHalfword memory (effectiveAddress m rb (4 * offset)) (reg m rd)))
-          (stopped 20 m memory))
+      a : ℕ
+      a = effectiveAddress m rb (4 * offset)
+
+      x : ℕ
+      x = reg m rd
+
+      hit : (b : ℕ) → a ≤ b → b < a + 2 → Writes (decodedTraffic (Defined (Str offset rb rd)) m) b
+      hit b from below = record { writes = refl; touches = record { from = from; below = below } }
+
+      go : (t : Bool) → aligned a ≡ t → Tells (Defined (Str offset rb rd)) (stored m a x t memory)
       go true e =
-          let a : ℕ = effectiveAddress m rb (4 * offset) in
-          let x : ℕ = reg m rd in
           let four : a % 4 ≡ 0 = eqb-true _ _ e in
           record {
             in-memory = λ b d. omega (arith, four, d .below);
             keeps = record {
               size = length-set (withByte memory a x) (a + 1) (x / 256) ∙ length-set memory a (x % 256);
               others = λ b out. getD-set-other (withByte memory a x) (a + 1) b (x / 256) 0
-                  (λ q. out (record { writes = refl; touches = record { from = omega (arith, q); below = omega (arith, q) } }))
-                  ∙ getD-set-other memory a b (x % 256) 0
-                  (λ q. out (record { writes = refl; touches = record { from = omega (arith, q); below = omega (arith, q) } }));
+                  (λ q. out (hit b (omega arith) (omega arith)))
+                  ∙ getD-set-other memory a b (x % 256) 0 (λ q. out (hit b (omega arith) (omega arith)));
               unwritten = λ q. absurd (false≢true (sym q));
             };
           }
@@ -80,12 +96,12 @@ module _ (m : Machine) (memory : List ℕ) where
   unfolding ldrOf
   ldr-tells offset rb rd = go (aligned (effectiveAddress m rb (4 * offset))) refl
     where
-      go : (t : Bool) → aligned (effectiveAddress m rb (4 * offset)) ≡ t
-          → Tells (Defined (Ldr offset rb rd))
-          (cond t (completed (updated m (written (m .regs) rd (halfwordAt memory (effectiveAddress m rb (4 * offset)))) (flags m)) memory)
-          (stopped 20 m memory))
+      a : ℕ
+      a = effectiveAddress m rb (4 * offset)
+
+      go : (t : Bool) → aligned a ≡ t → Tells (Defined (Ldr offset rb rd)) (loaded m rd a t memory)
       go true e =
-          let four : effectiveAddress m rb (4 * offset) % 4 ≡ 0 = eqb-true _ _ e in
+          let four : a % 4 ≡ 0 = eqb-true _ _ e in
           record { in-memory = λ b d. omega (arith, four, d .below); keeps = same }
       go false e = quiet
 
@@ -111,7 +127,7 @@ module _ (m : Machine) (memory : List ℕ) where
         keeps = record {
           size = length-set memory a (reg m rd % 256);
           others = λ b out. getD-set-other memory a b (reg m rd % 256) 0
-              (λ q. out (record { writes = refl; touches = record { from = omega (arith, q); below = omega (arith, q) } }));
+              (λ q. out (record { writes = refl; touches = record { from = omega arith; below = omega arith } }));
           unwritten = λ q. absurd (false≢true (sym q));
         };
       }
@@ -127,9 +143,11 @@ module _ (m : Machine) (memory : List ℕ) where
   step-tells : Leaves memory (stepTraffic m memory) (stepOf m memory .state .memory)
   unfolding stepTraffic stepOf fetchAndExecute
   step-tells =
-      cond-keeps (Tells (fetched m memory)) (eqb (length memory) memoryBytes) (fetchAndExecute m memory) (stepResult m memory (Refused (refusal 1)))
-      (cond-keeps (Tells (fetched m memory)) (eqb (pc m % 2) 0) (executeDecoded (fetched m memory) m memory) (stopped 18 m memory)
-      (decoded-tells (fetched m memory)) quiet)
+      let d = fetched m memory in
+      cond-keeps (Tells d) (eqb (length memory) memoryBytes)
+      (fetchAndExecute m memory) (stepResult m memory (Refused (refusal 1)))
+      (cond-keeps (Tells d) (eqb (pc m % 2) 0) (executeDecoded d m memory) (stopped 18 m memory)
+      (decoded-tells d) quiet)
       quiet
 
 pub data-in-memory : DataInMemory
@@ -156,34 +174,51 @@ module _ (m : Machine) (memory other : List ℕ) (long : length memory ≡ lengt
   SameRead d r = (a : ℕ) → Reads (whenCompleted (r .outcome) (decodedTraffic d m)) a → byteAt memory a ≡ byteAt other a
 
   -- the same is done to the machine, and nothing to memory
-  alone : {t : Traffic} → isWritten t ≡ false → (n : Machine) (o : Outcome) → Alike memory other t (stepResult n memory o) (stepResult n other o)
-  alone e n o = record { machine = refl; outcome = refl; written = λ a w. absurd (false≢true (sym e ∙ w .writes)); bytes = λ a h. h }
-
-  -- a load of the same data
-  loads : {t : Traffic} → isWritten t ≡ false → (rd x y : ℕ) → x ≡ y
-      → Alike memory other t (completed (updated m (written (m .regs) rd x) (flags m)) memory) (completed (updated m (written (m .regs) rd y) (flags m)) other)
-  loads e rd x y same =
+  alone : {t : Traffic} → isWritten t ≡ false → (n : Machine) (o : Outcome)
+      → Alike memory other t (stepResult n memory o) (stepResult n other o)
+  alone e n o =
       record {
-        machine = ap (λ (z : ℕ). updated m (written (m .regs) rd z) (flags m)) same;
+        machine = refl;
         outcome = refl;
         written = λ a w. absurd (false≢true (sym e ∙ w .writes));
         bytes = λ a h. h;
       }
 
-  str-alike : (offset rb rd : ℕ) → AlikeAs (Defined (Str offset rb rd)) (strOf offset rb rd m memory) (strOf offset rb rd m other)
+  -- a load of the same data
+  abbrev holding : ℕ → ℕ → Machine
+  holding rd x = updated m (written (m .regs) rd x) (flags m)
+
+  loads : {t : Traffic} → isWritten t ≡ false → (rd x y : ℕ) → x ≡ y
+      → Alike memory other t (completed (holding rd x) memory) (completed (holding rd y) other)
+  loads e rd x y same =
+      record {
+        machine = ap (holding rd) same;
+        outcome = refl;
+        written = λ a w. absurd (false≢true (sym e ∙ w .writes));
+        bytes = λ a h. h;
+      }
+
+  str-alike : (offset rb rd : ℕ)
+      → AlikeAs (Defined (Str offset rb rd)) (strOf offset rb rd m memory) (strOf offset rb rd m other)
   unfolding strOf
   str-alike offset rb rd = go (aligned (effectiveAddress m rb (4 * offset)))
     where
-      go : (t : Bool) → AlikeAs (Defined (Str offset rb rd))
-          (cond t (completed (updated m (advanced (m .regs)) (flags m)) (withHalfword memory (effectiveAddress m rb (4 * offset)) (reg m rd))) (stopped 20 m memory))
-          (cond t (completed (updated m (advanced (m .regs)) (flags m)) (withHalfword other (effectiveAddress m rb (4 * offset)) (reg m rd))) (stopped 20 m other))
+      a : ℕ
+      a = effectiveAddress m rb (4 * offset)
+
+      x : ℕ
+      x = reg m rd
+
+      low : length (withByte memory a x) ≡ length (withByte other a x)
+      low = simp length-set long
+
+      -- where the first byte leaves them alike, the second does
+      both : (b : ℕ) → byteAt (withByte memory a x) b ≡ byteAt (withByte other a x) b
+          → byteAt (withHalfword memory a x) b ≡ byteAt (withHalfword other a x) b
+      both b h = set-alike (withByte memory a x) (withByte other a x) (a + 1) (x / 256) b low h
+
+      go : (t : Bool) → AlikeAs (Defined (Str offset rb rd)) (stored m a x t memory) (stored m a x t other)
       go true =
-          let a : ℕ = effectiveAddress m rb (4 * offset) in
-          let x : ℕ = reg m rd in
-          let low : length (withByte memory a x) ≡ length (withByte other a x) = simp length-set long in
-          let both : (b : ℕ) → byteAt (withByte memory a x) b ≡ byteAt (withByte other a x) b → byteAt (withHalfword memory a x) b ≡ byteAt (withHalfword other a x) b =
-          λ b h. set-alike (withByte memory a x) (withByte other a x) (a + 1) (x / 256) b low h
-          in
           record {
             machine = refl;
             outcome = refl;
@@ -195,26 +230,27 @@ module _ (m : Machine) (memory other : List ℕ) (long : length memory ≡ lengt
           }
       go false = alone refl _ _
 
-  -- a halfword is loaded, or stop 20 comes first
-  abbrev loaded : ℕ → ℕ → Bool → List ℕ → StepResult
-  loaded rd a t bytes = cond t (completed (updated m (written (m .regs) rd (halfwordAt bytes a)) (flags m)) bytes) (stopped 20 m bytes)
-
   ldr-alike : (offset rb rd : ℕ) → SameRead (Defined (Ldr offset rb rd)) (ldrOf offset rb rd m memory)
       → AlikeAs (Defined (Ldr offset rb rd)) (ldrOf offset rb rd m memory) (ldrOf offset rb rd m other)
   unfolding ldrOf
   ldr-alike offset rb rd agree = go (aligned (effectiveAddress m rb (4 * offset))) agree
     where
-      go : (t : Bool) → SameRead (Defined (Ldr offset rb rd)) (loaded rd (effectiveAddress m rb (4 * offset)) t memory)
-          → AlikeAs (Defined (Ldr offset rb rd)) (loaded rd (effectiveAddress m rb (4 * offset)) t memory) (loaded rd (effectiveAddress m rb (4 * offset)) t other)
+      a : ℕ
+      a = effectiveAddress m rb (4 * offset)
+
+      hit : (b : ℕ) → a ≤ b → b < a + 2 → Reads (decodedTraffic (Defined (Ldr offset rb rd)) m) b
+      hit b from below = record { reads = refl; touches = record { from = from; below = below } }
+
+      go : (t : Bool) → SameRead (Defined (Ldr offset rb rd)) (loaded m rd a t memory)
+          → AlikeAs (Defined (Ldr offset rb rd)) (loaded m rd a t memory) (loaded m rd a t other)
       go true agree =
-          let a : ℕ = effectiveAddress m rb (4 * offset) in
           loads refl rd (halfwordAt memory a) (halfwordAt other a)
           (ap₂ (λ (x y : ℕ). x + y * 256)
-          (agree a (record { reads = refl; touches = record { from = omega arith; below = omega arith } }))
-          (agree (a + 1) (record { reads = refl; touches = record { from = omega arith; below = omega arith } })))
+          (agree a (hit a (omega arith) (omega arith))) (agree (a + 1) (hit (a + 1) (omega arith) (omega arith))))
       go false agree = alone refl _ _
 
-  pub execute-alike : (i : Instruction) → SameRead (Defined i) (executeOf i m memory) → AlikeAs (Defined i) (executeOf i m memory) (executeOf i m other)
+  pub execute-alike : (i : Instruction) → SameRead (Defined i) (executeOf i m memory)
+      → AlikeAs (Defined i) (executeOf i m memory) (executeOf i m other)
   unfolding executeOf strbOf ldrbOf
   execute-alike (MovImm rd imm) agree = alone refl _ _
   execute-alike (CmpImm rd imm) agree = alone refl _ _
@@ -234,16 +270,21 @@ module _ (m : Machine) (memory other : List ℕ) (long : length memory ≡ lengt
       record {
         machine = refl;
         outcome = refl;
-        written = λ b w. let e : b ≡ a = omega (arith, w .touches .from, w .touches .below) in rw e (set-here memory other a (reg m rd % 256) long);
+        written = λ b w.
+            let e : b ≡ a = omega (arith, w .touches .from, w .touches .below) in
+            rw e (set-here memory other a (reg m rd % 256) long);
         bytes = λ b h. set-alike memory other a (reg m rd % 256) b long h;
       }
   execute-alike (Ldrb offset rb rd) agree =
-      loads refl rd _ _ (agree (effectiveAddress m rb offset) (record { reads = refl; touches = record { from = omega arith; below = omega arith } }))
+      let a = effectiveAddress m rb offset in
+      loads refl rd _ _
+      (agree a (record { reads = refl; touches = record { from = omega arith; below = omega arith } }))
   execute-alike (AddPc rd imm) agree = alone refl _ _
   execute-alike (Branch condition offset) agree = alone refl _ _
   execute-alike (Halt note) agree = alone refl _ _
 
-  decoded-alike : (d : Decoded) → SameRead d (executeDecoded d m memory) → AlikeAs d (executeDecoded d m memory) (executeDecoded d m other)
+  decoded-alike : (d : Decoded) → SameRead d (executeDecoded d m memory)
+      → AlikeAs d (executeDecoded d m memory) (executeDecoded d m other)
   decoded-alike (Defined i) agree = execute-alike i agree
   decoded-alike Undefined agree = alone refl _ _
 
@@ -260,27 +301,41 @@ module _ (m : Machine) (memory other : List ℕ) (agrees : Agrees m memory other
   abbrev Both : Decoded → StepResult → StepResult → Type 0
   Both d r q =
       Alike memory other (whenCompleted (r .outcome) (decodedTraffic (fetched m memory) m)) r q
-      × (whenCompleted (r .outcome) (decodedTraffic (fetched m memory) m) ≡ whenCompleted (q .outcome) (decodedTraffic d m))
+      × (whenCompleted (r .outcome) (decodedTraffic (fetched m memory) m)
+      ≡ whenCompleted (q .outcome) (decodedTraffic d m))
 
   abbrev Agreed : StepResult → Type 0
   Agreed r = SameRead m memory other (agrees .size) (fetched m memory) r
 
-  fetched-alike : (t : Bool) → eqb (pc m % 2) 0 ≡ t → Agreed (cond t (executeDecoded (fetched m memory) m memory) (stopped 18 m memory))
-      → Both (fetched m other) (cond t (executeDecoded (fetched m memory) m memory) (stopped 18 m memory)) (cond t (executeDecoded (fetched m other) m other) (stopped 18 m other))
+  -- a step from an even PC or an odd one
+  abbrev by-place : Bool → List ℕ → StepResult
+  by-place t bytes = cond t (executeDecoded (fetched m bytes) m bytes) (stopped 18 m bytes)
+
+  fetched-alike : (t : Bool) → eqb (pc m % 2) 0 ≡ t → Agreed (by-place t memory)
+      → Both (fetched m other) (by-place t memory) (by-place t other)
   fetched-alike true e agree =
-      let alike = decoded-alike m memory other (agrees .size) (fetched m memory) agree in
-      subst (λ (d : Decoded). Both d (executeDecoded (fetched m memory) m memory) (executeDecoded d m other)) (same-fetch (eqb-true _ _ e))
-      (alike, ap (λ (o : Outcome). whenCompleted o (decodedTraffic (fetched m memory) m)) (alike .outcome))
+      let here = fetched m memory in
+      let alike = decoded-alike m memory other (agrees .size) here agree in
+      subst (λ (d : Decoded). Both d (executeDecoded here m memory) (executeDecoded d m other))
+      (same-fetch (eqb-true _ _ e))
+      (alike, ap (λ (o : Outcome). whenCompleted o (decodedTraffic here m)) (alike .outcome))
   fetched-alike false e agree = (alone m memory other (agrees .size) refl _ _, refl)
 
-  sized-alike : (t : Bool) → Agreed (cond t (fetchAndExecute m memory) (stepResult m memory (Refused (refusal 1))))
-      → Both (fetched m other) (cond t (fetchAndExecute m memory) (stepResult m memory (Refused (refusal 1)))) (cond t (fetchAndExecute m other) (stepResult m other (Refused (refusal 1))))
+  -- in a memory of the right size or of another
+  abbrev by-size : Bool → List ℕ → StepResult
+  by-size t bytes = cond t (fetchAndExecute m bytes) (stepResult m bytes (Refused (refusal 1)))
+
+  sized-alike : (t : Bool) → Agreed (by-size t memory) → Both (fetched m other) (by-size t memory) (by-size t other)
   unfolding fetchAndExecute
   sized-alike true agree = fetched-alike (eqb (pc m % 2) 0) refl agree
   sized-alike false agree = (alone m memory other (agrees .size) refl _ _, refl)
 
+  steps-alike : Both (fetched m other) (stepOf m memory) (stepOf m other)
+  unfolding stepTraffic stepOf
+  steps-alike =
+      subst (λ (n : ℕ). Both (fetched m other) (stepOf m memory) (by-size (eqb n memoryBytes) other)) (agrees .size)
+      (sized-alike (eqb (length memory) memoryBytes) (agrees .read))
+
 pub step-alike : StepAlike
-unfolding stepTraffic stepOf
-step-alike m memory other agrees =
-    subst (λ (n : ℕ). Both m memory other agrees (fetched m other) (stepOf m memory) (cond (eqb n memoryBytes) (fetchAndExecute m other) (stepResult m other (Refused (refusal 1)))))
-    (agrees .size) (sized-alike m memory other agrees (eqb (length memory) memoryBytes) (agrees .read))
+unfolding stepTraffic
+step-alike = steps-alike

@@ -11,7 +11,9 @@ use lib.ListN.{length}
 use Rattle.units.specs.Address.{memoryBytes}
 use Rattle.isa.specs.Access.{noAccess, accessOf}
 use Rattle.isa.specs.declared.instruction.Instruction.{Instruction}
-use Rattle.isa.specs.declared.instruction.Instruction.the-variants.{MovImm, CmpImm, And, Eor, Asr, Tst, Neg, Cmp, AddHigh, CmpHigh, MovHigh, Str, Ldr, Strb, Ldrb, AddPc, Branch, Halt}
+use Rattle.isa.specs.declared.instruction.Instruction.the-variants.{MovImm, CmpImm, And, Eor, Asr, Tst, Neg, Cmp}
+use Rattle.isa.specs.declared.instruction.Instruction.the-variants.{AddHigh, CmpHigh, MovHigh, Str, Ldr, Strb, Ldrb}
+use Rattle.isa.specs.declared.instruction.Instruction.the-variants.{AddPc, Branch, Halt}
 use Rattle.traffic.specs.declared.data.Traffic.the-variants.{NoData}
 use Rattle.cpu.specs.declared.machine.Machine.{Machine}
 use Rattle.cpu.specs.Step.{State}
@@ -24,7 +26,12 @@ use Rattle.cpu_laws.proofs.Course.{run-course}
 -- ---- a step
 
 none : (m : Machine) → Tells m noAccess NoData
-none m = record { bytes = refl; address = λ some. absurd (omega (arith, some)); written = λ some. absurd (omega (arith, some)) }
+none m =
+    record {
+      bytes = refl;
+      address = λ some. absurd (omega (arith, some));
+      written = λ some. absurd (omega (arith, some));
+    }
 
 pub tells-access : (i : Instruction) (m : Machine) → Tells m (accessOf i) (trafficOf i m)
 tells-access (MovImm rd imm) m = none m
@@ -53,7 +60,8 @@ completed-tells m memory i is completed = rw (completed, is) (tells-access i m)
 -- ---- a run
 
 -- a memory of another size is refused before the first step
-refused-first : (budget : ℕ) (m : Machine) (memory : List ℕ) → eqb (length memory) memoryBytes ≡ false → runOf budget m memory .count ≡ 0
+refused-first : (budget : ℕ) (m : Machine) (memory : List ℕ) → eqb (length memory) memoryBytes ≡ false
+    → runOf budget m memory .count ≡ 0
 unfolding runOf
 refused-first budget m memory e = simp e
 
@@ -65,7 +73,8 @@ pub last-traffic : LastTraffic
 unfolding runTraffic
 last-traffic budget m memory = go (runOf budget m memory .count) refl (eqb (length memory) memoryBytes) refl
   where
-    go : (n : ℕ) → runOf budget m memory .count ≡ n → (t : Bool) → eqb (length memory) memoryBytes ≡ t → LastTells (state m memory) n
+    go : (n : ℕ) → runOf budget m memory .count ≡ n → (t : Bool) → eqb (length memory) memoryBytes ≡ t
+        → LastTells (state m memory) n
     go zero counted t e = inl (record { none = refl; quiet = refl })
     go (suc k) counted true e =
         let course = run-course budget m memory (eqb-true _ _ e) in

@@ -1,5 +1,5 @@
--- What is claimed of a step and of a run as a whole ("One step"): a step that neither completes nor meets HALT changes nothing, and a run is its steps,
--- one after the other.
+-- What is claimed of a step and of a run as a whole ("One step"): a step that neither completes nor meets HALT
+-- changes nothing, and a run is its steps, one after the other.
 use mathlib.Core.List.{List}
 use mathlib.Core.Logic.{_⊎_}
 use mathlib.Core.Path.{_≡_}
@@ -18,7 +18,8 @@ use Rattle.cpu_laws.specs.Notes.{haltedState}
 -- a step completes, or it meets HALT and sets the note, or it leaves registers, flags, note and memory as they were
 abbrev pub StepWhole : Type 0
 StepWhole =
-    (s : State) → (outcomeAt s ≡ Completed) ⊎ (((outcomeAt s ≡ Halted) × (nextState s ≡ haltedState s)) ⊎ (nextState s ≡ s))
+    (s : State)
+    → (outcomeAt s ≡ Completed) ⊎ (((outcomeAt s ≡ Halted) × (nextState s ≡ haltedState s)) ⊎ (nextState s ≡ s))
 
 -- a step that ends so, and doesn't complete, ends the run so
 abbrev pub EndsAs : Outcome → RunOutcome → Type 0
@@ -34,13 +35,14 @@ finalState run.Halted s = haltedState s
 finalState (run.Stopped number) s = s
 finalState (run.Refused q) s = s
 
--- the course of a run from s: so many steps, each of which completes, lead to its last state. It ends where the budget is spent, or before that as the
--- next step would
+-- the course of a run from s: so many steps, each of which completes, lead to its last state. It ends where the
+-- budget is spent, or before that as the next step would
 pub record Course (budget : ℕ) (s : State) (r : RunResult) (steps : ℕ) : Type 0 where
   pub within : steps ≤ budget
   pub last : r .state ≡ finalState (r .outcome) (stateAfter steps s)
   pub completed : (k : ℕ) → k < steps → outcomeAt (stateAfter k s) ≡ Completed
-  pub end : ((r .outcome ≡ run.Spent) × (steps ≡ budget)) ⊎ ((steps < budget) × EndsAs (outcomeAt (stateAfter steps s)) (r .outcome))
+  pub end : ((r .outcome ≡ run.Spent) × (steps ≡ budget))
+      ⊎ ((steps < budget) × EndsAs (outcomeAt (stateAfter steps s)) (r .outcome))
 
 -- the steps of a run are as many as it counts
 abbrev pub RunCourse : Type 0

@@ -1,5 +1,5 @@
--- What is claimed of the note (Change 1): where a step or a run ends at HALT the low byte there becomes the note, and every other ending hands on the
--- note that it found.
+-- What is claimed of the note (Change 1): where a step or a run ends at HALT the low byte there becomes the note, and
+-- every other ending hands on the note that it found.
 use mathlib.Core.List.{List}
 use mathlib.Core.Path.{_≡_}
 use Prim.Native.Nat.{ℕ}

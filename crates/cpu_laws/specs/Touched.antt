@@ -1,5 +1,6 @@
--- Which bytes of memory have a part in a step ("Words of demand 3", and Change 2): the halfword that it fetches, and the data that it says it touched. What is
--- claimed here holds of every machine and memory, whether the code was judged or not.
+-- Which bytes of memory have a part in a step ("Words of demand 3", and Change 2): the halfword that it fetches, and
+-- the data that it says it touched. What is claimed here holds of every machine and memory, whether the code was
+-- judged or not.
 use mathlib.Core.Bool.{true, false}
 use mathlib.Core.List.{List}
 use mathlib.Core.Path.{_≡_}
@@ -34,12 +35,13 @@ pub record Fetches (m : Machine) (a : ℕ) : Type 0 where
   pub from : pc m ≤ a
   pub below : a < pc m + 2
 
--- the data of a step are bytes of memory: a halfword at a multiple of 4 never comes round from the last byte to the first
+-- the data of a step are bytes of memory: a halfword at a multiple of 4 never comes round from the last byte to the
+-- first
 abbrev pub DataInMemory : Type 0
 DataInMemory = (m : Machine) (memory : List ℕ) (a : ℕ) → Touches (stepTraffic m memory) a → a < memoryBytes
 
--- what a step leaves of memory: it is as long as before, each byte that isn't told as written is as before, and where none is told, all of
--- memory is
+-- what a step leaves of memory: it is as long as before, each byte that isn't told as written is as before, and where
+-- none is told, all of memory is
 pub record Keeps (memory : List ℕ) (t : Traffic) (after : List ℕ) : Type 0 where
   pub size : length after ≡ length memory
   pub others : (a : ℕ) → (Writes t a → ⊥) → byteAt after a ≡ byteAt memory a
@@ -54,8 +56,8 @@ pub record Agrees (m : Machine) (memory other : List ℕ) : Type 0 where
   pub fetch : (a : ℕ) → Fetches m a → byteAt memory a ≡ byteAt other a
   pub read : (a : ℕ) → Reads (stepTraffic m memory) a → byteAt memory a ≡ byteAt other a
 
--- two steps with the same registers, flags, note and ending after them. What they write is the same, and each other byte in which the memories were the
--- same before is the same in both afterwards
+-- two steps with the same registers, flags, note and ending after them. What they write is the same, and each other
+-- byte in which the memories were the same before is the same in both afterwards
 pub record Alike (memory other : List ℕ) (t : Traffic) (r q : StepResult) : Type 0 where
   pub machine : r .state .machine ≡ q .state .machine
   pub outcome : r .outcome ≡ q .outcome
@@ -66,4 +68,5 @@ pub record Alike (memory other : List ℕ) (t : Traffic) (r q : StepResult) : Ty
 abbrev pub StepAlike : Type 0
 StepAlike =
     (m : Machine) (memory other : List ℕ) → Agrees m memory other
-    → Alike memory other (stepTraffic m memory) (stepOf m memory) (stepOf m other) × (stepTraffic m memory ≡ stepTraffic m other)
+    → Alike memory other (stepTraffic m memory) (stepOf m memory) (stepOf m other)
+    × (stepTraffic m memory ≡ stepTraffic m other)

@@ -18,7 +18,8 @@ use Rattle.cpu.specs.Traffic.{stepTraffic}
 use Rattle.runner.specs.Run.{state, outcomeAt, stateAfter, runOf}
 use Rattle.runner.specs.Traffic.{trafficAt, runTraffic}
 
--- an access is told in full: how many bytes, from which address on, the wrapped one, and whether they are written. Where there is none, no byte is
+-- an access is told in full: how many bytes, from which address on, the wrapped one, and whether they are written.
+-- Where there is none, no byte is
 pub record Tells (m : Machine) (access : Access) (t : Traffic) : Type 0 where
   pub bytes : bytesTouched t ≡ access .size
   pub address : 0 < access .size → addressTouched t ≡ wrap (reg m (access .base) + access .offset)
@@ -27,7 +28,8 @@ pub record Tells (m : Machine) (access : Access) (t : Traffic) : Type 0 where
 -- a completed step tells the data of the instruction that it fetched
 abbrev pub CompletedTells : Type 0
 CompletedTells =
-    (m : Machine) (memory : List ℕ) (i : Instruction) → fetched m memory ≡ Defined i → stepOf m memory .outcome ≡ Completed
+    (m : Machine) (memory : List ℕ) (i : Instruction) → fetched m memory ≡ Defined i
+    → stepOf m memory .outcome ≡ Completed
     → Tells m (accessOf i) (stepTraffic m memory)
 
 -- a run that made no step says no data

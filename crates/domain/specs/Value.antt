@@ -1,5 +1,5 @@
--- What the verifier knows of a register ("Facts the judge carries"): the least and the largest number that it can be, and how many of its low
--- bits are known to be 0.
+-- What the verifier knows of a register ("Facts the judge carries"): the least and the largest number that it
+-- can be, and how many of its low bits are known to be 0.
 use mathlib.Core.Bool.{cond}
 use Prim.Native.Nat.{ℕ, _+_, _-_, _^_, min, max}
 use lib.Count.{leadingZeros, trailingZeros}
@@ -13,8 +13,8 @@ largest = 65535
 abbrev pub largestPositive : ℕ
 largestPositive = 32767
 
--- the value of the three numbers that a rule gives. Every rule below ends here: if only one number is left, that number's trailing zeros are the
--- count (16 for 0), whatever the rule's own count is
+-- the value of the three numbers that a rule gives. Every rule below ends here: if only one number is left,
+-- that number's trailing zeros are the count (16 for 0), whatever the rule's own count is
 unfoldable pub intervalOf : ℕ → ℕ → ℕ → Value
 intervalOf low high zeros = record { low = low; high = high; zeros = cond (eqb low high) (trailingZeros 16 low) zeros }
 
@@ -26,8 +26,9 @@ unknownOf = intervalOf 0 largest 0
 abbrev pub exactlyOf : ℕ → Value
 exactlyOf x = intervalOf x x 0
 
--- ADD. Where the sum of the upper bounds does not fit, every number is possible. (The lower sum would be cut only where a lower bound is above its
--- upper bound. No value of a walk has such bounds: `LowBelowHigh` and `AddsPlainly` of verifier_laws.)
+-- ADD. Where the sum of the upper bounds does not fit, every number is possible. (The lower sum would be cut
+-- only where a lower bound is above its upper bound. No value of a walk has such bounds: `LowBelowHigh` and
+-- `AddsPlainly` of verifier_laws.)
 unfoldable pub addOf : Value → Value → Value
 addOf a b =
     cond (ltb largest (a .high + b .high))

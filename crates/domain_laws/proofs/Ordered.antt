@@ -1,5 +1,5 @@
 -- Every rule makes a value whose bounds are in order, from values whose bounds are.
-use mathlib.Core.Bool.{Bool, true, false, cond}
+use mathlib.Core.Bool.{Bool, true, false}
 use mathlib.Core.Path.{_≡_, refl}
 use Prim.Native.Nat.{ℕ, _+_, _-_, _≤_, min, max, zero-le}
 use native.Mathlib.Nat.{le-refl}
@@ -8,7 +8,8 @@ use borrow.Author.Tests.{ltb-false, le-ltb}
 use lib.Count.{leadingZeros}
 use lib.Dec.{ltb, leb}
 use lib.Pow.{pow-mono}
-use Rattle.domain.specs.Value.{largest, largestPositive, intervalOf, unknownOf, exactlyOf, addOf, andOf, bitLengthOf, onesOf, eorOf, asrOf, negOf, byteOf}
+use Rattle.domain.specs.Value.{largest, largestPositive, intervalOf, unknownOf, exactlyOf, addOf, andOf, bitLengthOf}
+use Rattle.domain.specs.Value.{onesOf, eorOf, asrOf, negOf, byteOf}
 use Rattle.domain.specs.declared.value.Value.{Value}
 use Rattle.domain_laws.specs.Ordered.{Ordered}
 
@@ -30,11 +31,11 @@ neg-ordered v = interval-ordered 0 largest (v .zeros) zero-le (le-refl largest)
 
 pub asr-ordered : (v : Value) → Ordered v → Ordered (asrOf v)
 unfolding asrOf
-asr-ordered v h = go (leb (v .high) largestPositive)
+asr-ordered v h = go (leb (v .high) largestPositive) refl
   where
-    go : (t : Bool) → Ordered (cond t (intervalOf 0 (v .high) 0) (intervalOf 0 largest 0))
-    go true = interval-ordered 0 (v .high) 0 zero-le (h .word)
-    go false = interval-ordered 0 largest 0 zero-le (le-refl largest)
+    go : (t : Bool) → leb (v .high) largestPositive ≡ t → Ordered (asrOf v)
+    go true e = rw e (interval-ordered 0 (v .high) 0 zero-le (h .word))
+    go false e = rw e (interval-ordered 0 largest 0 zero-le (le-refl largest))
 
 module _ (v u : Value) where
   pub eor-ordered : Ordered (eorOf v u)
@@ -47,19 +48,19 @@ module _ (v u : Value) where
   module _ (hv : Ordered v) (hu : Ordered u) where
     pub and-ordered : Ordered (andOf v u)
     unfolding andOf
-    and-ordered = interval-ordered 0 (min (v .high) (u .high)) (max (v .zeros) (u .zeros)) zero-le (omega (arith, hv .word))
+    and-ordered = interval-ordered 0 (min (v .high) (u .high)) (max (v .zeros) (u .zeros)) zero-le (omega arith)
 
     pub add-ordered : Ordered (addOf v u)
     unfolding addOf
     add-ordered = go (ltb largest (v .high + u .high)) refl
       where
-        go : (t : Bool) → ltb largest (v .high + u .high) ≡ t
-            → Ordered (cond t (intervalOf 0 largest (min (v .zeros) (u .zeros))) (intervalOf (min (v .low + u .low) largest) (v .high + u .high) (min (v .zeros) (u .zeros))))
-        go true e = interval-ordered 0 largest (min (v .zeros) (u .zeros)) zero-le (le-refl largest)
+        go : (t : Bool) → ltb largest (v .high + u .high) ≡ t → Ordered (addOf v u)
+        go true e = rw e (interval-ordered 0 largest (min (v .zeros) (u .zeros)) zero-le (le-refl largest))
         go false e =
-            interval-ordered (min (v .low + u .low) largest) (v .high + u .high) (min (v .zeros) (u .zeros)) (omega (arith, hv .order, hu .order)) (ltb-false _ _ e)
+            rw e
+            (interval-ordered (min (v .low + u .low) largest) (v .high + u .high) _ (omega arith) (ltb-false _ _ e))
 
     -- the lower sum is not cut where the upper one fits
     pub add-low : v .high + u .high ≤ largest → addOf v u .low ≡ v .low + u .low
     unfolding addOf intervalOf
-    add-low fits = simp (le-ltb _ _ fits) (omega (arith, hv .order, hu .order))
+    add-low fits = simp (le-ltb _ _ fits) (omega arith)

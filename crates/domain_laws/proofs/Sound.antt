@@ -13,14 +13,17 @@ use lib.Pow.{pow-mono, le-ones}
 use Rattle.domain.specs.Value.{largest, largestPositive, intervalOf, addOf, andOf, bitLengthOf, onesOf, eorOf, asrOf}
 use Rattle.domain.specs.declared.value.Value.{Value}
 use Rattle.domain_laws.specs.Holds.{Holds}
-use Rattle.domain_laws.specs.Sound.{UnknownSound, ExactlySound, ByteSound, AddSound, AndSound, EorSound, AsrSound, NegSound, RulesSound}
-use Rattle.domain_laws.proofs.Zeros.{zeros-less, zeros-wrap, zeros-add, zeros-and-l, zeros-and-r, zeros-xor, zeros-neg, zeros-trailing}
+use Rattle.domain_laws.specs.Sound.{UnknownSound, ExactlySound, ByteSound, AddSound, AndSound, EorSound, AsrSound}
+use Rattle.domain_laws.specs.Sound.{NegSound, RulesSound}
+use Rattle.domain_laws.proofs.Zeros.{zeros-less, zeros-wrap, zeros-add, zeros-and-l, zeros-and-r, zeros-xor}
+use Rattle.domain_laws.proofs.Zeros.{zeros-neg, zeros-trailing}
 
 -- three numbers that a rule gives hold of x, so the value that they make does
 interval-sound : {low high zeros x : ℕ} → low ≤ x → x ≤ high → x % 2 ^ zeros ≡ 0 → high ≤ largest → zeros ≤ 16
     → Holds (intervalOf low high zeros) x
 unfolding intervalOf
-interval-sound {low} {high} {zeros} {x} l h z w n = record { low = l; high = h; zeros = go (eqb low high) refl; word = w; count = small (eqb low high) }
+interval-sound {low} {high} {zeros} {x} l h z w n =
+    record { low = l; high = h; zeros = go (eqb low high) refl; word = w; count = small (eqb low high) }
   where
     go : (t : Bool) → eqb low high ≡ t → x % 2 ^ cond t (trailingZeros 16 low) zeros ≡ 0
     go true e =
@@ -43,18 +46,19 @@ pub byte-sound : ByteSound
 byte-sound x h = interval-sound zero-le (omega arith) (mod-one x) (omega arith) zero-le
 
 pub neg-sound : NegSound
-neg-sound v x h = interval-sound zero-le (omega arith) (zeros-neg x (v .zeros) (h .count) (h .zeros)) (le-refl largest) (h .count)
+neg-sound v x h =
+    interval-sound zero-le (omega arith) (zeros-neg x (v .zeros) (h .count) (h .zeros)) (le-refl largest) (h .count)
 
 pub asr-sound : AsrSound
 unfolding asrOf
 asr-sound v x r h positive word = go (leb (v .high) largestPositive) refl
   where
-    go : (t : Bool) → leb (v .high) largestPositive ≡ t → Holds (cond t (intervalOf 0 (v .high) 0) (intervalOf 0 largest 0)) r
+    go : (t : Bool) → leb (v .high) largestPositive ≡ t → Holds (asrOf v) r
     go true e =
         let p : v .high ≤ largestPositive = leb-true _ _ e in
-        let q : r ≤ x = positive (omega (arith, h .high)) in
-        interval-sound zero-le (omega (arith, h .high)) (mod-one r) (h .word) zero-le
-    go false e = interval-sound zero-le word (mod-one r) (le-refl largest) zero-le
+        let q : r ≤ x = positive (omega arith) in
+        rw e (interval-sound zero-le (omega arith) (mod-one r) (h .word) zero-le)
+    go false e = rw e (interval-sound zero-le word (mod-one r) (le-refl largest) zero-le)
 
 module _ (v u : Value) (x y : ℕ) (hv : Holds v x) (hu : Holds u y) where
   -- the smaller count is right for both operands
@@ -65,15 +69,19 @@ module _ (v u : Value) (x y : ℕ) (hv : Holds v x) (hu : Holds u y) where
   fewer-r = zeros-less y (min (v .zeros) (u .zeros)) (u .zeros) (omega arith) (hu .zeros)
 
   fewer : min (v .zeros) (u .zeros) ≤ 16
-  fewer = omega (arith, hv .count)
+  fewer = omega arith
 
   sum-zeros : (x + y) % 65536 % 2 ^ min (v .zeros) (u .zeros) ≡ 0
-  sum-zeros = rw (zeros-wrap (x + y) (min (v .zeros) (u .zeros)) fewer) (zeros-add x y (min (v .zeros) (u .zeros)) fewer-l fewer-r)
+  sum-zeros =
+      rw (zeros-wrap (x + y) (min (v .zeros) (u .zeros)) fewer)
+      (zeros-add x y (min (v .zeros) (u .zeros)) fewer-l fewer-r)
 
   -- the larger count is that of one of the operands
   and-zeros : Dec (v .zeros ≤ u .zeros) → bitAnd x y % 2 ^ max (v .zeros) (u .zeros) ≡ 0
-  and-zeros (yes h) = let e : max (v .zeros) (u .zeros) ≡ u .zeros = omega arith in rw e (zeros-and-r x y (u .zeros) (hu .zeros))
-  and-zeros (no h) = let e : max (v .zeros) (u .zeros) ≡ v .zeros = omega arith in rw e (zeros-and-l x y (v .zeros) (hv .zeros))
+  and-zeros (yes h) =
+      let e : max (v .zeros) (u .zeros) ≡ u .zeros = omega arith in rw e (zeros-and-r x y (u .zeros) (hu .zeros))
+  and-zeros (no h) =
+      let e : max (v .zeros) (u .zeros) ≡ v .zeros = omega arith in rw e (zeros-and-l x y (v .zeros) (hv .zeros))
 
 -- numbers of no more bits than m give one of no more bits than m, and low bits that are 0 in both are 0 in it
 eor-holds : (m n x y : ℕ) → m ≤ largest → x ≤ m → y ≤ m → x % 2 ^ n ≡ 0 → y % 2 ^ n ≡ 0 → n ≤ 16
@@ -91,22 +99,24 @@ pub add-sound : AddSound
 unfolding addOf
 add-sound v u x y hv hu = go (ltb largest (v .high + u .high)) refl
   where
-    go : (t : Bool) → ltb largest (v .high + u .high) ≡ t → Holds (cond t (intervalOf 0 largest (min (v .zeros) (u .zeros))) (intervalOf (min (v .low + u .low) largest) (v .high + u .high) (min (v .zeros) (u .zeros)))) ((x + y) % 65536)
-    go true e = interval-sound zero-le (omega arith) (sum-zeros v u x y hv hu) (le-refl largest) (fewer v u x y hv hu)
+    go : (t : Bool) → ltb largest (v .high + u .high) ≡ t → Holds (addOf v u) ((x + y) % 65536)
+    go true e =
+        rw e (interval-sound zero-le (omega arith) (sum-zeros v u x y hv hu) (le-refl largest) (fewer v u x y hv hu))
     go false e =
         let q : v .high + u .high ≤ largest = ltb-false _ _ e in
-        interval-sound (omega (arith, hv, hu)) (omega (arith, hv, hu)) (sum-zeros v u x y hv hu) q (fewer v u x y hv hu)
+        rw e (interval-sound (omega arith) (omega arith) (sum-zeros v u x y hv hu) q (fewer v u x y hv hu))
 
 pub and-sound : AndSound
 unfolding andOf
 and-sound v u x y hv hu =
-    interval-sound zero-le (omega (arith, hv, hu, and-le-l x y, and-le-r x y))
-    (and-zeros v u x y hv hu (decLe (v .zeros) (u .zeros))) (omega (arith, hv .word)) (omega (arith, hv .count, hu .count))
+    interval-sound zero-le (omega (arith, and-le-l x y, and-le-r x y))
+    (and-zeros v u x y hv hu (decLe (v .zeros) (u .zeros)))
+    (omega arith) (omega arith)
 
 pub eor-sound : EorSound
 unfolding eorOf
 eor-sound v u x y hv hu =
-    eor-holds _ _ x y (omega (arith, hv .word, hu .word)) (omega (arith, hv .high)) (omega (arith, hu .high)) (fewer-l v u x y hv hu) (fewer-r v u x y hv hu)
+    eor-holds _ _ x y (omega arith) (omega arith) (omega arith) (fewer-l v u x y hv hu) (fewer-r v u x y hv hu)
     (fewer v u x y hv hu)
 
 pub rules-sound : RulesSound

@@ -1,8 +1,10 @@
--- The rules of "Facts the judge carries" are sound: where values hold of the numbers in registers, the value that a rule makes of them holds of the
--- number that the machine makes of those. MOV needs no line here, since it copies both.
+-- The rules of "Facts the judge carries" are sound: where values hold of the numbers in registers, the value
+-- that a rule makes of them holds of the number that the machine makes of those. MOV needs no line here, since
+-- it copies both.
 use Prim.Native.Nat.{ℕ, _+_, _-_, _%_, _≤_, _<_}
 use lib.Bits.{bitAnd, bitXor}
-use Rattle.domain.specs.Value.{largest, largestPositive, unknownOf, exactlyOf, addOf, andOf, eorOf, asrOf, negOf, byteOf}
+use Rattle.domain.specs.Value.{largest, largestPositive, unknownOf, exactlyOf, addOf, andOf, eorOf, asrOf, negOf}
+use Rattle.domain.specs.Value.{byteOf}
 use Rattle.domain.specs.declared.value.Value.{Value}
 use Rattle.domain_laws.specs.Holds.{Holds}
 
@@ -32,7 +34,8 @@ AndSound = SoundFor bitAnd andOf
 abbrev pub EorSound : Type 0
 EorSound = SoundFor bitXor eorOf
 
--- ASR: r is x shifted by any count. Of 16 bits is all that is asked of it, and where x is not negative, that it is no larger than x
+-- ASR: r is x shifted by any count. Of 16 bits is all that is asked of it, and where x is not negative, that it
+-- is no larger than x
 abbrev pub AsrSound : Type 0
 AsrSound = (v : Value) (x r : ℕ) → Holds v x → (x ≤ largestPositive → r ≤ x) → r ≤ largest → Holds (asrOf v) r
 

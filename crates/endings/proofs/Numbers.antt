@@ -10,12 +10,19 @@ use Rattle.runner.specs.declared.runs.RunOutcome.{RunOutcome}
 use Rattle.runner.specs.Run.{RunResult, runResult}
 use Rattle.endings.specs.Endings.{outcomeNumber, runNumber, trafficNumber, numbered, numberedStep, numberedRun}
 
-module _ (m : Machine) (memory : List ℕ) (t u : Traffic) (ending number : ℕ) (whole : number ≡ ending + trafficNumber t) (told : t ≡ u) where
-  pub step-number : (o : Outcome) (r : StepResult) → ending ≡ outcomeNumber o → stepResult m memory o ≡ r → numbered m memory number ≡ numberedStep r u
-  step-number o r is came =
-      ap (numbered m memory) (whole ∙ ap (λ (n : ℕ). n + trafficNumber t) is) ∙ ap₂ numberedStep came told
+-- a machine and its memory; what was touched is told as t, and is u
+module _ (m : Machine) (memory : List ℕ) (t u : Traffic) (ending number : ℕ)
+    (whole : number ≡ ending + trafficNumber t) (told : t ≡ u) where
+  -- the number of an ending
+  number-is : (n : ℕ) → ending ≡ n → number ≡ n + trafficNumber t
+  number-is n is = whole ∙ ap (λ (e : ℕ). e + trafficNumber t) is
+
+  pub step-number : (o : Outcome) (r : StepResult) → ending ≡ outcomeNumber o → stepResult m memory o ≡ r
+      → numbered m memory number ≡ numberedStep r u
+  step-number o r is came = ap (numbered m memory) (number-is (outcomeNumber o) is) ∙ ap₂ numberedStep came told
 
   pub run-number : (o : RunOutcome) (count : ℕ) (r : RunResult) → ending ≡ runNumber o → runResult m memory o count ≡ r
       → numbered m memory (number + count * 0x100000000) ≡ numberedRun r u
   run-number o count r is came =
-      ap (λ (n : ℕ). numbered m memory (n + count * 0x100000000)) (whole ∙ ap (λ (n : ℕ). n + trafficNumber t) is) ∙ ap₂ numberedRun came told
+      ap (λ (n : ℕ). numbered m memory (n + count * 0x100000000)) (number-is (runNumber o) is)
+      ∙ ap₂ numberedRun came told

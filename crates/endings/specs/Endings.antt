@@ -43,4 +43,5 @@ numberedStep r t = record { state = r .state; number = outcomeNumber (r .outcome
 
 -- and the steps completed in the upper 32
 abbrev pub numberedRun : RunResult → Traffic → Numbered
-numberedRun r t = record { state = r .state; number = runNumber (r .outcome) + trafficNumber t + r .count * 0x100000000 }
+numberedRun r t =
+    record { state = r .state; number = runNumber (r .outcome) + trafficNumber t + r .count * 0x100000000 }

@@ -27,7 +27,8 @@ fn run_number(o: RunOutcome) -> u8
 // A run: its ending and what its last completed step touched in the low 32 bits
 // as a step's, with 0 where the budget is spent, and its count in the upper 32.
 pub fn run_numbered(m: Machine, memory: &mut [u8], budget: u32) -> AfterRun
-    ensures { λ r. ⌜ numbered (r .machine) (now (memory .exit)) (r .number) ≡ numberedRun (runOf budget m (now (memory .entry))) (runTraffic budget m (now (memory .entry))) ⌝ }
+    ensures { λ r. ⌜ numbered (r .machine) (now (memory .exit)) (r .number)
+        ≡ numberedRun (runOf budget m (now (memory .entry))) (runTraffic budget m (now (memory .entry))) ⌝ }
 {
     let out = runner::run(m, memory, budget);
     let machine = out.machine;

@@ -27,7 +27,8 @@ fn outcome_number(o: Outcome) -> u8
 // One step. The low 8 bits are 0 where it completed, 255 at HALT, else the stop's
 // or the refusal's own number; what it touched stands above them.
 pub fn step_numbered(m: Machine, memory: &mut [u8]) -> AfterStep
-    ensures { λ r. ⌜ numbered (r .machine) (now (memory .exit)) (r .number) ≡ numberedStep (stepOf m (now (memory .entry))) (stepTraffic m (now (memory .entry))) ⌝ }
+    ensures { λ r. ⌜ numbered (r .machine) (now (memory .exit)) (r .number)
+        ≡ numberedStep (stepOf m (now (memory .entry))) (stepTraffic m (now (memory .entry))) ⌝ }
 {
     let out = stepper::step_value(m, memory);
     let machine = out.machine;

@@ -41,8 +41,8 @@ abbrev pub codeHalfword : List ℕ → ℕ → ℕ
 codeHalfword block i = halfword block (headerHalfwords + i)
 
 -- the sum of a whole block
-abbrev pub sumOf : List ℕ → ℕ
-sumOf block = sumBelow (halfword block) blockHalfwords
+abbrev pub blockSumOf : List ℕ → ℕ
+blockSumOf block = sumBelow (halfword block) blockHalfwords
 
 -- the sum after calls for halfwords 255 down to n, the last halfword first (Change 3)
 abbrev pub sumFromBack : List ℕ → ℕ → ℕ

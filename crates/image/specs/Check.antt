@@ -8,7 +8,8 @@ use Rattle.units.specs.Address.{memoryBytes}
 use Rattle.refusals.specs.Refusal.{refusal, refusalInBlock}
 use Rattle.refusals.specs.declared.refusal.Refusal.{Refusal}
 use Rattle.image.specs.Format.{mark, blockBytes, blockCode, mostBytes}
-use Rattle.image.specs.Block.{blocksIn, blockOf, halfword, numberOf, usedOf, windowStartOf, windowLengthOf, countOf, codeHalfword, sumOf}
+use Rattle.image.specs.Block.{blocksIn, blockOf, halfword, numberOf, usedOf, windowStartOf, windowLengthOf}
+use Rattle.image.specs.Block.{countOf, codeHalfword, blockSumOf}
 use Rattle.image.specs.Code.{codeLength}
 use Rattle.image.specs.declared.answer.Answer.{Answer}
 use Rattle.image.specs.declared.answer.Answer.the-variants.{Pass, Refused}
@@ -48,7 +49,7 @@ check3 block = eqb (halfword block 0) mark
 
 -- 4: its halfwords add up to 0
 unfoldable pub check4 : List ℕ → Bool
-check4 block = eqb (sumOf block) 0
+check4 block = eqb (blockSumOf block) 0
 
 -- 5: block k says its own number and how many blocks the file has
 unfoldable pub check5 : ℕ → ℕ → List ℕ → Bool

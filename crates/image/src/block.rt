@@ -7,7 +7,7 @@ ghost use mathlib.Core.Path.{_≡_};
 ghost use Prim.Native.Nat.{_+_, _*_, _<_, _≤_};
 ghost use lib.ListN.{length};
 ghost use Rattle.image.specs.Format.{blockBytes, blockHalfwords};
-ghost use Rattle.image.specs.Block.{blockOf, halfword, sumOf};
+ghost use Rattle.image.specs.Block.{blockOf, halfword, blockSumOf};
 
 // The bytes of block `k`.
 pub(crate) fn block_part(file: &[u8], k: usize) -> &[u8]
@@ -31,7 +31,7 @@ pub(crate) fn field(block: &[u8], j: usize) -> u16
 // them.
 pub(crate) fn block_sum(block: &[u8]) -> u16
     requires { ⌜ length (now block) ≡ blockBytes ⌝ }
-    ensures { λ r. ⌜ r ≡ sumOf (now (block .entry)) ⌝ }
+    ensures { λ r. ⌜ r ≡ blockSumOf (now (block .entry)) ⌝ }
 {
     let mut sum = 0;
     let mut j = BLOCK_HALFWORDS;

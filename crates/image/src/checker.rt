@@ -21,7 +21,9 @@ ghost use lib.ListN.{length};
 ghost use Rattle.image.specs.Format.{blockBytes, blockCode, mostBlocks};
 ghost use Rattle.image.specs.Block.{blocksIn, blockOf};
 ghost use Rattle.image.specs.Window.{WindowIs};
-ghost use Rattle.image.specs.Check.{whole, firstNo, check2, check3, check4, check5, usedRight, unusedZero, check6, check7, check8, blockChecks, checksBelow, layoutOf, layoutFits, checkedAs, checkOf};
+ghost use Rattle.image.specs.Check.{whole, firstNo, check2, check3, check4, check5, usedRight, unusedZero};
+ghost use Rattle.image.specs.Check.{check6, check7, check8, blockChecks, checksBelow, layoutOf, layoutFits};
+ghost use Rattle.image.specs.Check.{checkedAs, checkOf};
 
 // What an accepted file says of itself, in bytes: the length of its code (the
 // papers' c), and where its window starts (w) and how long it is (l).
@@ -197,7 +199,8 @@ fn check_blocks(file: &[u8], blocks: u8) -> Answer
 // c, w and l of a file whose blocks have passed: the code ends where the
 // instruction after its last would stand.
 fn read_layout(file: &[u8], blocks: u8) -> Layout
-    requires { ⌜ (blocks ≡ blocksIn (now file)) × (1 ≤ blocks) × (blocks ≤ mostBlocks) × (firstNo (checksBelow (now file) blocks) ≡ Answer.Pass) ⌝ }
+    requires { ⌜ (blocks ≡ blocksIn (now file)) × (1 ≤ blocks) × (blocks ≤ mostBlocks)
+        × (firstNo (checksBelow (now file) blocks) ≡ Answer.Pass) ⌝ }
     ensures { λ r. ⌜ r ≡ layoutOf (now (file .entry)) ⌝ }
 {
     let before = (blocks - 1) as usize;

@@ -1,4 +1,5 @@
-pub mod Halves
+pub mod Unused
+pub mod Places
 pub mod Made
 pub mod Accepted
 pub mod Reading

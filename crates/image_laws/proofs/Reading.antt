@@ -8,6 +8,7 @@ use native.Mathlib.Numerals.{add-one}
 use native.Mathlib.Omega.{arith}
 use borrow.Author.Tests.{lt-ltb, le-ltb, ltb-false}
 use denote.Ref.{RefT, now}
+use Rattle.units.proofs.Cases.{clash, lt-or-ge}
 use Rattle.refusals.specs.declared.refusal.Refusal.{Refusal}
 use Rattle.image.specs.Format.{blockBytes}
 use Rattle.image.specs.Block.{blocksIn, blockOf}
@@ -22,7 +23,6 @@ use Rattle.reader.specs.declared.reader.Given.the-variants as given
 use Rattle.image.proofs.Blocks.{block-length}
 use Rattle.image.proofs.Valid.{valid-layout}
 use Rattle.image_laws.specs.Claims.{readerAfter, ReaderGives, AcceptedGives, RefusedGives, NoneLeftAtEnd}
-use Rattle.image_laws.proofs.Halves.{lt-or-ge}
 
 module _ (file : List ℕ) where
   module _ (said : Layout) (valid : checkOf file ≡ Valid said) where
@@ -54,14 +54,16 @@ module _ (file : List ℕ) where
     unfolding givenOf
     refusal-there n = ap (givenAs file n) refused
 
-  past-last : (n : ℕ) (t : Bool) → isLeft file n ≡ t → cond t (given.Block (blockBytes * n)) given.NoneLeft ≡ given.NoneLeft → blocksIn file ≤ n
-  past-last n true e h = let z : _≡_ {A = ℕ} 0 1 = cc in absurd (omega arith)
+  past-last : (n : ℕ) (t : Bool) → isLeft file n ≡ t
+      → cond t (given.Block (blockBytes * n)) given.NoneLeft ≡ given.NoneLeft → blocksIn file ≤ n
+  past-last n true e h = clash (cc)
   past-last n false e h = ltb-false n (blocksIn file) e
 
-  at-end : (n : ℕ) (a : Checked) → checkOf file ≡ a → givenAs file n a ≡ given.NoneLeft → (checkOf file ≡ Valid (layoutOf file)) × (blocksIn file ≤ n)
+  at-end : (n : ℕ) (a : Checked) → checkOf file ≡ a → givenAs file n a ≡ given.NoneLeft
+      → (checkOf file ≡ Valid (layoutOf file)) × (blocksIn file ≤ n)
   unfolding blockAt
   at-end n (Valid said) e h = (e ∙ ap Valid (valid-layout file said e), past-last n (isLeft file n) refl h)
-  at-end n (Refused r) e h = let z : _≡_ {A = ℕ} 0 1 = cc in absurd (omega arith)
+  at-end n (Refused r) e h = clash (cc)
 
 -- the reader of a file that comes to block k next
 module _ (file : RefT (List ℕ)) where
@@ -72,34 +74,50 @@ module _ (file : RefT (List ℕ)) where
   unfolding givenOf
   goes-from k = refl
 
-  gives-from : (n k : ℕ) → readerAfter file n ≡ at-block k → givenOf (now file) k ≡ givenOf (now file) n
-      → (answerOf (readerAfter file n) ≡ givenOf (now file) n) × (nextOf (readerAfter file n) ≡ bytesOf (now file) (givenOf (now file) n))
+  -- what the reader answers after n calls, and gives out, is what is said of call n
+  abbrev Gives : ℕ → Type 0
+  Gives n =
+      (answerOf (readerAfter file n) ≡ givenOf (now file) n)
+      × (nextOf (readerAfter file n) ≡ bytesOf (now file) (givenOf (now file) n))
+
+  gives-from : (n k : ℕ) → readerAfter file n ≡ at-block k → givenOf (now file) k ≡ givenOf (now file) n → Gives n
   unfolding givenOf
   gives-from n k e same = (ap answerOf e ∙ same, ap nextOf e ∙ ap (bytesOf (now file)) same)
 
-  accepted-after : (said : Layout) → checkOf (now file) ≡ Valid said → (n : ℕ) → readerAfter file n ≡ at-block (min n (blocksIn (now file)))
+  abbrev blocks : ℕ
+  blocks = blocksIn (now file)
+
+  accepted-after : (said : Layout) → checkOf (now file) ≡ Valid said → (n : ℕ)
+      → readerAfter file n ≡ at-block (min n blocks)
   unfolding readerAfter
-  accepted-after said valid zero = let start : 0 ≡ min 0 (blocksIn (now file)) = omega arith in ap at-block start
+  accepted-after said valid zero = let start : 0 ≡ min 0 blocks = omega arith in ap at-block start
   accepted-after said valid (suc n) =
-      ap afterNext (accepted-after said valid n)
-      ∙ goes-from (min n (blocksIn (now file)))
-      ∙ ap at-block (⊎-elim
-      (λ lt. goes-on (now file) said valid (min n (blocksIn (now file))) (omega arith) ∙ omega arith)
-      (λ ge. stays (now file) said valid (min n (blocksIn (now file))) (omega arith) ∙ omega arith)
-      (lt-or-ge n (blocksIn (now file))))
+      let next : afterOf (min n blocks) (givenOf (now file) (min n blocks)) ≡ min (suc n) blocks =
+      ⊎-elim
+      (λ lt. goes-on (now file) said valid (min n blocks) (omega arith) ∙ omega arith)
+      (λ ge. stays (now file) said valid (min n blocks) (omega arith) ∙ omega arith)
+      (lt-or-ge n blocks) in
+      ap afterNext (accepted-after said valid n) ∙ goes-from (min n blocks) ∙ ap at-block next
 
   refused-after : (r : Refusal) → checkOf (now file) ≡ Refused r → (n : ℕ) → readerAfter file n ≡ at-block 0
   unfolding readerAfter
   refused-after r refused zero = refl
-  refused-after r refused (suc n) = ap afterNext (refused-after r refused n) ∙ goes-from 0 ∙ ap (λ (g : Given). at-block (afterOf 0 g)) (refusal-there (now file) r refused 0)
+  refused-after r refused (suc n) =
+      ap afterNext (refused-after r refused n)
+      ∙ goes-from 0
+      ∙ ap (λ (g : Given). at-block (afterOf 0 g)) (refusal-there (now file) r refused 0)
 
-  reads : (n : ℕ) (a : Checked) → checkOf (now file) ≡ a → (answerOf (readerAfter file n) ≡ givenOf (now file) n) × (nextOf (readerAfter file n) ≡ bytesOf (now file) (givenOf (now file) n))
+  reads : (n : ℕ) (a : Checked) → checkOf (now file) ≡ a → Gives n
   reads n (Valid said) e =
-      gives-from n (min n (blocksIn (now file))) (accepted-after said e n) (⊎-elim
-      (λ lt. let same : min n (blocksIn (now file)) ≡ n = omega arith in ap (givenOf (now file)) same)
-      (λ ge. none-left (now file) said e (min n (blocksIn (now file))) (omega arith) ∙ sym (none-left (now file) said e n ge))
-      (lt-or-ge n (blocksIn (now file))))
-  reads n (Refused r) e = gives-from n 0 (refused-after r e n) (refusal-there (now file) r e 0 ∙ sym (refusal-there (now file) r e n))
+      let same : givenOf (now file) (min n blocks) ≡ givenOf (now file) n =
+      ⊎-elim
+      (λ lt. let all : min n blocks ≡ n = omega arith in ap (givenOf (now file)) all)
+      (λ ge. none-left (now file) said e (min n blocks) (omega arith) ∙ sym (none-left (now file) said e n ge))
+      (lt-or-ge n blocks) in
+      gives-from n (min n blocks) (accepted-after said e n) same
+  reads n (Refused r) e =
+      gives-from n 0 (refused-after r e n)
+      (refusal-there (now file) r e 0 ∙ sym (refusal-there (now file) r e n))
 
 pub reader-gives : ReaderGives
 reader-gives file n = reads file n (checkOf (now file)) refl

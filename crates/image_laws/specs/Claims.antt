@@ -9,7 +9,7 @@ use Rattle.units.specs.Address.{wrap}
 use Rattle.refusals.specs.declared.refusal.Refusal.{Refusal}
 use Rattle.sums.specs.Sum.{plainSum}
 use Rattle.image.specs.Format.{blockBytes, blockHalfwords}
-use Rattle.image.specs.Block.{blocksIn, blockOf, halfword, sumOf, sumFromBack}
+use Rattle.image.specs.Block.{blocksIn, blockOf, halfword, blockSumOf, sumFromBack}
 use Rattle.image.specs.Code.{codeOf}
 use Rattle.image.specs.Check.{check4, layoutOf, checkOf}
 use Rattle.reader.specs.Reader.{givenOf, bytesOf, openOf, answerOf, nextOf, afterNext}
@@ -33,10 +33,12 @@ PackThenCheck =
 abbrev pub Bytes : List ℕ → Type 0
 Bytes file = (p : ℕ) → getD file p 0 < 256
 
--- an accepted file is what the packer makes of its code and window, over any output of its length: every byte of it is decided
+-- an accepted file is what the packer makes of its code and window, over any output of its length:
+-- every byte of it is decided
 abbrev pub CheckThenPack : Type 0
 CheckThenPack =
-    (file : List ℕ) (c w l : ℕ) (out : List ℕ) → Bytes file → checkOf file ≡ Valid (layout c w l) → length out ≡ length file
+    (file : List ℕ) (c w l : ℕ) (out : List ℕ)
+    → Bytes file → checkOf file ≡ Valid (layout c w l) → length out ≡ length file
     → (packOf (codeOf file) w l (length out) ≡ Done) × (outputOf (codeOf file) w l out ≡ file)
 
 -- calls for halfwords 255 down to n of a block come to the sum of halfwords n to 255 modulo 65,536
@@ -47,7 +49,7 @@ BackwardSum =
 
 -- calls for all 256 come to the sum that check 4 speaks of, which goes in the other order
 abbrev pub SameSum : Type 0
-SameSum = (block : List ℕ) → sumFromBack block 0 ≡ sumOf block
+SameSum = (block : List ℕ) → sumFromBack block 0 ≡ blockSumOf block
 
 -- so whoever sums a block from the back has the answer of check 4
 abbrev pub CheckByCalls : Type 0
@@ -62,7 +64,8 @@ readerAfter file (suc n) = afterNext (readerAfter file n)
 abbrev pub ReaderGives : Type 0
 ReaderGives =
     (file : RefT (List ℕ)) (n : ℕ)
-    → (answerOf (readerAfter file n) ≡ givenOf (now file) n) × (nextOf (readerAfter file n) ≡ bytesOf (now file) (givenOf (now file) n))
+    → (answerOf (readerAfter file n) ≡ givenOf (now file) n)
+    × (nextOf (readerAfter file n) ≡ bytesOf (now file) (givenOf (now file) n))
 
 -- block n is given: where it starts, its own bytes, and that these are 512
 abbrev pub GivesBlock : List ℕ → ℕ → Type 0

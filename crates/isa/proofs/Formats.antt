@@ -1,7 +1,7 @@
 -- What a halfword's top five bits tell of it: for code that goes by them, where the definition goes by the top three.
 use Prim.Native.Nat.{ℕ, zero, suc, _+_, _*_, _/_, _<_, _≤_}
 use native.Mathlib.Omega.{arith}
-use mathlib.Core.Path.{_≡_, refl, _∙_}
+use mathlib.Core.Path.{_≡_, refl}
 use borrow.Author.Tests.{ne-eqb, lt-ltb, le-ltb}
 use Rattle.units.specs.Field.{field}
 use Rattle.isa.specs.Decode.{entry, immTable, haltOf, registersTable, memoryTable, branchOf, decodeOf}
@@ -44,7 +44,7 @@ module _ (h : ℕ) (fits : h < 65536) where
   is-upper-branch e = let f : field h 13 3 ≡ 6 = omega arith in simp f
 
   -- all other
-  parts : field h 11 5 ≡ 4 * field h 13 3 + field h 11 2
+  pub parts : field h 11 5 ≡ 4 * field h 13 3 + field h 11 2
   parts = omega arith
 
   no-halt-here : (field h 11 5 ≡ 0 → ⊥) → field h 13 3 ≡ 0 → decodeOf h ≡ Undefined
@@ -59,7 +59,8 @@ module _ (h : ℕ) (fits : h < 65536) where
       let p : 2 ≤ field h 10 3 = omega (arith, parts, half) in
       rw f (entry-past (registersTable h) (field h 10 3) p)
 
-  no-memory : (field h 11 5 ≡ 12 → ⊥) → (field h 11 5 ≡ 13 → ⊥) → (field h 11 5 ≡ 14 → ⊥) → (field h 11 5 ≡ 15 → ⊥) → field h 13 3 ≡ 3 → ⊥
+  pub no-memory : (field h 11 5 ≡ 12 → ⊥) → (field h 11 5 ≡ 13 → ⊥)
+      → (field h 11 5 ≡ 14 → ⊥) → (field h 11 5 ≡ 15 → ⊥) → field h 13 3 ≡ 3 → ⊥
   no-memory a b c d f = omega arith
 
   no-add-pc : (field h 11 5 ≡ 20 → ⊥) → field h 13 3 ≡ 5 → decodeOf h ≡ Undefined
@@ -71,9 +72,9 @@ module _ (h : ℕ) (fits : h < 65536) where
       let g : field h 12 1 ≡ 0 = omega (arith, parts, half) in
       simp (f, g)
 
-  no-format : (field h 11 5 ≡ 0 → ⊥) → (field h 11 5 ≡ 4 → ⊥) → (field h 11 5 ≡ 5 → ⊥) → (field h 11 5 ≡ 8 → ⊥) → (field h 11 5 ≡ 12 → ⊥)
-      → (field h 11 5 ≡ 13 → ⊥) → (field h 11 5 ≡ 14 → ⊥) → (field h 11 5 ≡ 15 → ⊥) → (field h 11 5 ≡ 20 → ⊥) → (field h 11 5 ≡ 26 → ⊥)
-      → (field h 11 5 ≡ 27 → ⊥) → decodeOf h ≡ Undefined
+  no-format : (field h 11 5 ≡ 0 → ⊥) → (field h 11 5 ≡ 4 → ⊥) → (field h 11 5 ≡ 5 → ⊥) → (field h 11 5 ≡ 8 → ⊥)
+      → (field h 11 5 ≡ 12 → ⊥) → (field h 11 5 ≡ 13 → ⊥) → (field h 11 5 ≡ 14 → ⊥) → (field h 11 5 ≡ 15 → ⊥)
+      → (field h 11 5 ≡ 20 → ⊥) → (field h 11 5 ≡ 26 → ⊥) → (field h 11 5 ≡ 27 → ⊥) → decodeOf h ≡ Undefined
   no-format n₀ n₄ n₅ n₈ n₁₂ n₁₃ n₁₄ n₁₅ n₂₀ n₂₆ n₂₇ = by-format (field h 13 3) refl
     where
       by-format : (n : ℕ) → field h 13 3 ≡ n → decodeOf h ≡ Undefined
@@ -88,18 +89,9 @@ module _ (h : ℕ) (fits : h < 65536) where
 
   -- what the last arm of a `match` on the top five bits is told: they are none of the numbers above it
   pub is-none : {B : Type 0} (n : ℕ) → n ≡ field h 11 5
-      → ((((((((((B × (n ≡ 0 → ⊥)) × (n ≡ 4 → ⊥)) × (n ≡ 5 → ⊥)) × (n ≡ 8 → ⊥)) × (n ≡ 12 → ⊥)) × (n ≡ 13 → ⊥)) × (n ≡ 14 → ⊥)) × (n ≡ 15 → ⊥)) × (n ≡ 20 → ⊥)) × (n ≡ 26 → ⊥)) × (n ≡ 27 → ⊥)
+      → ((((((((((B × (n ≡ 0 → ⊥)) × (n ≡ 4 → ⊥)) × (n ≡ 5 → ⊥)) × (n ≡ 8 → ⊥))
+      × (n ≡ 12 → ⊥)) × (n ≡ 13 → ⊥)) × (n ≡ 14 → ⊥)) × (n ≡ 15 → ⊥)) × (n ≡ 20 → ⊥)) × (n ≡ 26 → ⊥)) × (n ≡ 27 → ⊥)
       → decodeOf h ≡ Undefined
   is-none n told rest =
-      no-format
-      (λ z. rest .0 .0 .0 .0 .0 .0 .0 .0 .0 .0 .1 (told ∙ z))
-      (λ z. rest .0 .0 .0 .0 .0 .0 .0 .0 .0 .1 (told ∙ z))
-      (λ z. rest .0 .0 .0 .0 .0 .0 .0 .0 .1 (told ∙ z))
-      (λ z. rest .0 .0 .0 .0 .0 .0 .0 .1 (told ∙ z))
-      (λ z. rest .0 .0 .0 .0 .0 .0 .1 (told ∙ z))
-      (λ z. rest .0 .0 .0 .0 .0 .1 (told ∙ z))
-      (λ z. rest .0 .0 .0 .0 .1 (told ∙ z))
-      (λ z. rest .0 .0 .0 .1 (told ∙ z))
-      (λ z. rest .0 .0 .1 (told ∙ z))
-      (λ z. rest .0 .1 (told ∙ z))
-      (λ z. rest .1 (told ∙ z))
+      let none = rw told at rest in
+      no-format (search) (search) (search) (search) (search) (search) (search) (search) (search) (search) (search)

@@ -1,11 +1,14 @@
--- What an instruction touches beside its registers: the data of a load or store ("Words of demand 3"). A step's traffic (Change 2), checks 10 and 11, and
--- demand 3 all speak of these bytes.
+-- What an instruction touches beside its registers: the data of a load or store ("Words of demand 3"). A step's
+-- traffic (Change 2), checks 10 and 11, and demand 3 all speak of these bytes.
 use mathlib.Core.Bool.{Bool, true, false}
 use Prim.Native.Nat.{ℕ, _*_}
 use Rattle.isa.specs.declared.instruction.Instruction.{Instruction}
-use Rattle.isa.specs.declared.instruction.Instruction.the-variants.{MovImm, CmpImm, And, Eor, Asr, Tst, Neg, Cmp, AddHigh, CmpHigh, MovHigh, Str, Ldr, Strb, Ldrb, AddPc, Branch, Halt}
+use Rattle.isa.specs.declared.instruction.Instruction.the-variants.{MovImm, CmpImm, And, Eor, Asr, Tst, Neg, Cmp}
+use Rattle.isa.specs.declared.instruction.Instruction.the-variants.{AddHigh, CmpHigh, MovHigh, Str, Ldr, Strb}
+use Rattle.isa.specs.declared.instruction.Instruction.the-variants.{Ldrb, AddPc, Branch, Halt}
 
--- the data of an instruction: `size` bytes, `offset` bytes past what the register `base` holds, and whether it stores them
+-- the data of an instruction: `size` bytes, `offset` bytes past what the register `base` holds, and
+-- whether it stores them
 pub record Access : Type 0 where
   pub base : ℕ
   pub offset : ℕ

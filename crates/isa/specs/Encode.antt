@@ -4,7 +4,9 @@ use Prim.Native.Nat.{ℕ, _+_, _*_, _/_, _%_, max}
 use lib.Dec.{ltb}
 use Rattle.refusals.specs.Refusal.{refusal}
 use Rattle.isa.specs.declared.instruction.Instruction.{Instruction}
-use Rattle.isa.specs.declared.instruction.Instruction.the-variants.{MovImm, CmpImm, And, Eor, Asr, Tst, Neg, Cmp, AddHigh, CmpHigh, MovHigh, Str, Ldr, Strb, Ldrb, AddPc, Branch, Halt}
+use Rattle.isa.specs.declared.instruction.Instruction.the-variants.{MovImm, CmpImm, And, Eor, Asr, Tst, Neg, Cmp}
+use Rattle.isa.specs.declared.instruction.Instruction.the-variants.{AddHigh, CmpHigh, MovHigh, Str, Ldr, Strb}
+use Rattle.isa.specs.declared.instruction.Instruction.the-variants.{Ldrb, AddPc, Branch, Halt}
 use Rattle.isa.specs.declared.encoder.Encoded.{Encoded}
 use Rattle.isa.specs.declared.encoder.Encoded.the-variants.{Halfword, Refused}
 
@@ -38,7 +40,8 @@ addPcForm rd imm = given (ltb rd 8) (given (ltb imm 256) (Halfword (0xa000 + rd 
 
 -- 1101 cond:4 offset:8
 abbrev pub branchForm : ℕ → ℕ → Encoded
-branchForm condition offset = given (ltb condition 14) (given (ltb offset 256) (Halfword (0xd000 + condition * 0x100 + offset)))
+branchForm condition offset =
+    given (ltb condition 14) (given (ltb offset 256) (Halfword (0xd000 + condition * 0x100 + offset)))
 
 -- 00000000 note:8 (Change 1)
 abbrev pub haltForm : ℕ → Encoded

@@ -5,7 +5,8 @@ use units::bits;
 use units::high_rd;
 use units::high_rs;
 ghost use mathlib.Core.Path.{_≡_};
-ghost use Rattle.isa.specs.Decode.{decodeOf, haltOf, immOf, registersOf, aluOf, highOf, memoryOf, addPcOf, branchOf};
+ghost use Rattle.isa.specs.Decode.{decodeOf, haltOf, immOf, registersOf, aluOf};
+ghost use Rattle.isa.specs.Decode.{highOf, memoryOf, addPcOf, branchOf};
 
 // What a halfword is: an instruction, or nothing that the manual defines.
 pub enum Decoded {

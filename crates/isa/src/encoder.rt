@@ -6,7 +6,8 @@ use refusals::refusal_of;
 ghost use mathlib.Core.Path.{_≡_};
 ghost use Prim.Native.Nat.{_<_};
 ghost use Rattle.refusals.specs.Refusal.{refusal};
-ghost use Rattle.isa.specs.Encode.{encodeOf, immForm, aluForm, highForm, memoryForm, addPcForm, branchForm, haltForm};
+ghost use Rattle.isa.specs.Encode.{encodeOf, immForm, aluForm, highForm};
+ghost use Rattle.isa.specs.Encode.{memoryForm, addPcForm, branchForm, haltForm};
 
 // An instruction's halfword, or check 17's refusal.
 pub enum Encoded {

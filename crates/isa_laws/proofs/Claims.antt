@@ -13,7 +13,8 @@ use Rattle.isa.specs.declared.decoder.Decoded.the-variants.{Undefined}
 use Rattle.isa.specs.Decode.{decodeOf}
 use Rattle.isa.specs.Encode.{encodeOf}
 use Rattle.isa.proofs.Halts.{halt-own}
-use Rattle.isa_laws.specs.Claims.{DecodeThenEncode, EncodeThenDecode, HaltNotes, DefinedCount, AddressesExact, NumbersExact}
+use Rattle.isa_laws.specs.Claims.{DecodeThenEncode, EncodeThenDecode, HaltNotes, DefinedCount, AddressesExact}
+use Rattle.isa_laws.specs.Claims.{NumbersExact}
 use Rattle.isa_laws.proofs.Defined.{at-defined}
 use Rattle.isa_laws.proofs.There.{There, there, halt-there}
 

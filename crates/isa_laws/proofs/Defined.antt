@@ -18,5 +18,7 @@ onDefined g h Undefined = true
 abbrev pub everywhere : (ℕ → Instruction → Bool) → Bool
 everywhere g = every (λ h. onDefined g h (decodeOf h)) 65536
 
-pub at-defined : (g : ℕ → Instruction → Bool) → T (everywhere g) → (h : ℕ) → h < 65536 → (i : Instruction) → decodeOf h ≡ Defined i → T (g h i)
-at-defined g t h l i e = subst (λ (d : Decoded). T (onDefined g h d)) e (at (λ k. onDefined g k (decodeOf k)) 65536 t h l)
+pub at-defined : (g : ℕ → Instruction → Bool) → T (everywhere g) → (h : ℕ) → h < 65536 → (i : Instruction)
+    → decodeOf h ≡ Defined i → T (g h i)
+at-defined g t h l i e =
+    subst (λ (d : Decoded). T (onDefined g h d)) e (at (λ k. onDefined g k (decodeOf k)) 65536 t h l)

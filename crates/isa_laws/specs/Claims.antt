@@ -11,11 +11,11 @@ use Rattle.isa.specs.Decode.{decodeOf}
 use Rattle.isa.specs.Encode.{encodeOf}
 use Rattle.isa.specs.Count.{definedBelow}
 
--- an instruction that was decoded encodes to the halfword it came from
+-- an instruction that was decoded encodes to the halfword it came from: the encoder refuses only what no halfword says
 abbrev pub DecodeThenEncode : Type 0
 DecodeThenEncode = (h : ℕ) → h < 65536 → (i : Instruction) → decodeOf h ≡ Defined i → encodeOf i ≡ Halfword h
 
--- a halfword that was encoded decodes to the instruction it came from: the encoder refuses only what no halfword says
+-- a halfword that was encoded decodes to the instruction it came from
 abbrev pub EncodeThenDecode : Type 0
 EncodeThenDecode = (i : Instruction) (h : ℕ) → encodeOf i ≡ Halfword h → decodeOf h ≡ Defined i
 
@@ -31,7 +31,9 @@ DefinedCount = definedBelow 65536 ≡ 19264
 
 -- up to 32,767 an instruction's address is twice its number, and leads back to it
 abbrev pub AddressesExact : Type 0
-AddressesExact = (i : InstructionIndex) → i .0 ≤ 32767 → (byteAddressOf i .0 ≡ 2 * i .0) × (instructionIndexOf (byteAddressOf i) ≡ i)
+AddressesExact =
+    (i : InstructionIndex) → i .0 ≤ 32767
+    → (byteAddressOf i .0 ≡ 2 * i .0) × (instructionIndexOf (byteAddressOf i) ≡ i)
 
 -- an even address is twice its instruction's number
 abbrev pub NumbersExact : Type 0

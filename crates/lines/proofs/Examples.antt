@@ -10,7 +10,8 @@ fit : verdictText (Fit (record { «code_bytes» = 14; «window_start» = 256; «
 unfolding numberText
 fit = refl
 
-refused : verdictText (Refused (refusalAt 10 (record { 0 = 10 }))) ≡ 114 ∷ 101 ∷ 102 ∷ 117 ∷ 115 ∷ 101 ∷ 100 ∷ 32 ∷ 49 ∷ 48 ∷ 32 ∷ 49 ∷ 48 ∷ 10 ∷ []
+refused : verdictText (Refused (refusalAt 10 (record { 0 = 10 })))
+    ≡ 114 ∷ 101 ∷ 102 ∷ 117 ∷ 115 ∷ 101 ∷ 100 ∷ 32 ∷ 49 ∷ 48 ∷ 32 ∷ 49 ∷ 48 ∷ 10 ∷ []
 unfolding numberText
 refused = refl
 

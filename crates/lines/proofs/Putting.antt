@@ -6,21 +6,25 @@ use native.Mathlib.Omega.{arith}
 use lib.ListN.{length, set, replicate, length-append, length-replicate}
 use lib.Seq.{set-append-seam, length-take-le}
 use Rattle.lines.specs.declared.writer.Line.{Line}
-use Rattle.lines.specs.Lines.{Text, lineBytes, lineOf, Within, Adds}
+use Rattle.lines.specs.Lines.{Text, lineBytes, lineOf, Within}
+use Rattle.lines.specs.Parts.{Adds}
 
 -- the first of the zeros behind a text becomes the next byte
 put-bytes : (s : Text) (b : ℕ) → length s < lineBytes
-    → set (s ++ replicate (lineBytes - length s) 0) (length s) b ≡ (s ++ (b ∷ [])) ++ replicate (lineBytes - length (s ++ (b ∷ []))) 0
+    → set (s ++ replicate (lineBytes - length s) 0) (length s) b
+    ≡ (s ++ (b ∷ [])) ++ replicate (lineBytes - length (s ++ (b ∷ []))) 0
 put-bytes s b h =
     let before : lineBytes - length s ≡ suc (31 - length s) = omega arith in
     let after : lineBytes - length (s ++ (b ∷ [])) ≡ 31 - length s = simp length-append (omega arith) in
-    rw (before, after) (set-append-seam s 0 (replicate (31 - length s) 0) b ∙ sym (append-assoc s (b ∷ []) (replicate (31 - length s) 0)))
+    let zeros : Text = replicate (31 - length s) 0 in
+    rw (before, after) (set-append-seam s 0 zeros b ∙ sym (append-assoc s (b ∷ []) zeros))
 
 abbrev line : Text → ℕ → Line
 line bytes n = record { bytes = bytes; length = n }
 
 -- a byte after the last
-pub put-adds : (l : Line) (b : ℕ) → l .length < lineBytes → Adds l (b ∷ []) (line (set (l .bytes) (l .length) b) (l .length + 1))
+pub put-adds : (l : Line) (b : ℕ) → l .length < lineBytes
+    → Adds l (b ∷ []) (line (set (l .bytes) (l .length) b) (l .length + 1))
 unfolding lineOf
 put-adds l b h s e =
     let room : length s < lineBytes = subst (λ (x : Line). x .length < lineBytes) e h in

@@ -56,10 +56,7 @@ longestLine = 22
 unfoldable pub lineOf : Text → Line
 lineOf t = record { bytes = t ++ replicate (lineBytes - length t) 0; length = length t }
 
--- a line's text lies within its bytes. The second part follows from the first: Rattle's own proof of `&bytes[..length]` asks both
+-- a line's text lies within its bytes. The second part follows from the first: Rattle's own proof of
+-- `&bytes[..length]` asks both
 abbrev pub Within : Line → Type 0
 Within line = (line .length ≤ length (line .bytes)) × (line .length ≡ length (take (line .length) (line .bytes)))
-
--- `r` is `line` with a text added
-abbrev pub Adds : Line → Text → Line → Type 0
-Adds line t r = (s : Text) → line ≡ lineOf s → r ≡ lineOf (s ++ t)

@@ -1,9 +1,8 @@
 // A line that is written from its start.
-ghost use mathlib.Core.List.{[], _∷_};
-ghost use mathlib.Core.Path.{_≡_};
 ghost use Prim.Native.Nat.{_+_, _≤_, _<_};
 ghost use lib.ListN.{length};
-ghost use Rattle.lines.specs.Lines.{lineBytes, lineOf, digit, numberText, Adds};
+ghost use Rattle.lines.specs.Lines.{lineBytes, digit, numberText};
+ghost use Rattle.lines.specs.Parts.{OnlyWord, PutByte, PutText};
 
 // The room of a line: the longest is 22 bytes.
 const LINE_BYTES: usize = 32;
@@ -18,7 +17,7 @@ pub struct Line {
 // Adds a byte.
 pub(crate) fn put(line: Line, byte: u8) -> Line
     requires { ⌜ line .length < lineBytes ⌝ }
-    ensures { λ r. ⌜ Adds line (byte ∷ []) r × (r .length ≡ line .length + 1) ⌝ }
+    ensures { λ r. ⌜ PutByte line byte r ⌝ }
 {
     let end = line.length;
     let mut bytes = line.bytes;
@@ -32,7 +31,7 @@ pub(crate) fn put(line: Line, byte: u8) -> Line
 // The line that has only a word in it.
 pub(crate) fn line_of(word: &[u8]) -> Line
     requires { ⌜ length (now word) ≤ lineBytes ⌝ }
-    ensures { λ r. ⌜ (r ≡ lineOf (now (word .entry))) × (r .length ≡ length (now (word .entry))) ⌝ }
+    ensures { λ r. ⌜ OnlyWord (now (word .entry)) r ⌝ }
 {
     let mut line = Line {
         bytes: [0u8; LINE_BYTES],
@@ -50,7 +49,7 @@ pub(crate) fn line_of(word: &[u8]) -> Line
 // Adds the digit of a power of ten, if the number is so large.
 fn put_digit(line: Line, n: u16, unit: u16) -> Line
     requires { ⌜ (line .length < lineBytes) × (0 < unit) ⌝ }
-    ensures { λ r. ⌜ Adds line (digit n unit) r × (r .length ≤ line .length + 1) ⌝ }
+    ensures { λ r. ⌜ PutText line (digit n unit) 1 r ⌝ }
 {
     if n < unit {
         line
@@ -62,7 +61,7 @@ fn put_digit(line: Line, n: u16, unit: u16) -> Line
 // Adds a space and a number in decimal.
 pub(crate) fn put_number(line: Line, n: u16) -> Line
     requires { ⌜ line .length + 6 ≤ lineBytes ⌝ }
-    ensures { λ r. ⌜ Adds line (numberText n) r × (r .length ≤ line .length + 6) ⌝ }
+    ensures { λ r. ⌜ PutText line (numberText n) 6 r ⌝ }
 {
     let spaced = put(line, b' ');
     let first = put_digit(spaced, n, 10000);

@@ -9,6 +9,7 @@ use Rattle.refusals.specs.Refusal.{refusal}
 use Rattle.refusals.specs.declared.refusal.Refusal.{Refusal}
 use Rattle.image.specs.declared.checker.Layout.{Layout}
 use Rattle.verifier.specs.Verify.{verifyOf}
+use Rattle.verifier.specs.declared.verifier.Verdict.{Verdict}
 use Rattle.verifier.specs.declared.verifier.Verdict.the-variants as verdict
 use Rattle.loader.specs.Load.{loadedMemory, loadOf, memoryAfterLoad}
 use Rattle.loader.specs.declared.loader.Loaded.{Loaded}
@@ -18,15 +19,18 @@ use Rattle.loader.specs.declared.loader.Loaded.the-variants.{Done, Refus
 abbrev pub Answers : List ℕ → List ℕ → Loaded → List ℕ → Type 0
 Answers file memory answer after = (answer ≡ loadOf file memory) × (after ≡ memoryAfterLoad file memory)
 
-pub wrong-size : (file memory : List ℕ) (r : Refusal) → (length memory ≡ memoryBytes → ⊥) → r ≡ refusal 1 → Answers file memory (Refused r) memory
+pub wrong-size : (file memory : List ℕ) (r : Refusal) → (length memory ≡ memoryBytes → ⊥) → r ≡ refusal 1
+    → Answers file memory (Refused r) memory
 unfolding loadOf memoryAfterLoad
 wrong-size file memory r h is = simp (ne-eqb _ _ h, is) (refl, refl)
 
-pub unfit : (file memory : List ℕ) (r : Refusal) → length memory ≡ memoryBytes → verifyOf file ≡ verdict.Refused r → Answers file memory (Refused r) memory
-unfolding loadOf memoryAfterLoad
-unfit file memory r h e = simp (eq-eqb _ _ h, e) (refl, refl)
+-- a memory of the right size, and what the verifier said
+module _ (file memory : List ℕ) (size : length memory ≡ memoryBytes) (v : Verdict) (is : v ≡ verifyOf file) where
+  pub unfit : (r : Refusal) → v ≡ verdict.Refused r → Answers file memory (Refused r) memory
+  unfolding loadOf memoryAfterLoad
+  unfit r e = simp (eq-eqb _ _ size, ← is, e) (refl, refl)
 
-pub done : (file memory after : List ℕ) (layout : Layout) → length memory ≡ memoryBytes → verifyOf file ≡ verdict.Fit layout → after ≡ loadedMemory file layout memory
-    → Answers file memory (Done layout) after
-unfolding loadOf memoryAfterLoad
-done file memory after layout h e m = simp (eq-eqb _ _ h, e) (refl, m)
+  pub done : (layout : Layout) (after : List ℕ) → v ≡ verdict.Fit layout → after ≡ loadedMemory file layout memory
+      → Answers file memory (Done layout) after
+  unfolding loadOf memoryAfterLoad
+  done layout after e m = simp (eq-eqb _ _ size, ← is, e) (refl, m)

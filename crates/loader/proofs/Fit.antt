@@ -1,6 +1,6 @@
 -- What the loader needs of a fit file: its code lies in the file, and code and window lie in memory.
 use mathlib.Core.List.{List}
-use mathlib.Core.Path.{_≡_}
+use mathlib.Core.Path.{_≡_, _∙_}
 use Prim.Native.Nat.{ℕ, _+_, _*_, _≤_, _<_}
 use native.Mathlib.Omega.{arith}
 use lib.ListN.{length}
@@ -43,6 +43,12 @@ module _ (file : List ℕ) (layout : Layout) (fit : verifyOf file ≡ Fit layout
     pub code-fits-memory : 2 * n .0 ≤ memoryBytes
     code-fits-memory = omega (arith, bytes, code-first, window-fits)
 
-    pub placed : (memory : List ℕ) → length memory ≡ memoryBytes
-        → cleared (layout .«window_start») (layout .«window_start» + layout .«window_length») (withCode file (n .0) memory) ≡ loadedMemory file layout memory
-    placed memory whole = load-is file layout memory (n .0) bytes whole code-first window-fits (λ i h. code-halfword file i (omega (arith, count)))
+    -- the code is copied, then the window is cleared
+    pub placed : (memory copied after : List ℕ) → length memory ≡ memoryBytes → copied ≡ withCode file (n .0) memory
+        → after ≡ cleared (layout .«window_start») (layout .«window_start» + layout .«window_length») copied
+        → after ≡ loadedMemory file layout memory
+    placed memory copied after whole code window =
+        window
+        ∙ rw code
+        (load-is file layout memory (n .0) bytes whole code-first window-fits
+        (λ i h. code-halfword file i (omega (arith, count))))

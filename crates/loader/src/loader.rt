@@ -37,7 +37,8 @@ fn place(file: &[u8], layout: Layout, memory: &mut [u8])
 // its code goes to address 0, its window is cleared, and no other byte changes. A
 // refusal changes nothing.
 pub fn load(file: &[u8], memory: &mut [u8]) -> Loaded
-    ensures { λ r. ⌜ (r ≡ loadOf (now (file .entry)) (now (memory .entry))) × (now (memory .exit) ≡ memoryAfterLoad (now (file .entry)) (now (memory .entry))) ⌝ }
+    ensures { λ r. ⌜ (r ≡ loadOf (now (file .entry)) (now (memory .entry)))
+        × (now (memory .exit) ≡ memoryAfterLoad (now (file .entry)) (now (memory .entry))) ⌝ }
 {
     if memory.len() != MEMORY_BYTES {
         return Loaded::Refused(refusal_of(1));

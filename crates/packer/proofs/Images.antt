@@ -16,16 +16,24 @@ use Rattle.sums.proofs.Sums.{sum-less, back-unique}
 use Rattle.image.proofs.Lists.{length-tabulate, tabulate-at}
 use Rattle.packer.proofs.Overwriting.{two-more}
 
+-- a store leaves the output as long as it was
+pub room-kept : (code : List ℕ) (k : ℕ) (out next : List ℕ) → Room code k out → length next ≡ length out
+    → Room code k next
+room-kept code k out next room e =
+    record { code-fits = room .code-fits; in-image = room .in-image; long = e ∙ room .long }
+
 module _ (code : List ℕ) (w l : ℕ) where
   pub image-length : length (imageOf code w l) ≡ blockBytes * blocksNeeded (length code)
   unfolding imageOf
   image-length = length-tabulate (imageByte code w l) 0 (512 * blocksNeeded (length code))
 
-  pub image-at : (p : ℕ) → p < blockBytes * blocksNeeded (length code) → getD (imageOf code w l) p 0 ≡ imageByte code w l p
+  pub image-at : (p : ℕ) → p < blockBytes * blocksNeeded (length code)
+      → getD (imageOf code w l) p 0 ≡ imageByte code w l p
   unfolding imageOf
   image-at p h = tabulate-at (imageByte code w l) (512 * blocksNeeded (length code)) p h
 
-  same-byte : {k k′ j j′ b b′ : ℕ} → k ≡ k′ → j ≡ j′ → b ≡ b′ → byteOf (imageHalfword code w l k j) b ≡ byteOf (imageHalfword code w l k′ j′) b′
+  same-byte : {k k′ j j′ b b′ : ℕ} → k ≡ k′ → j ≡ j′ → b ≡ b′
+      → byteOf (imageHalfword code w l k j) b ≡ byteOf (imageHalfword code w l k′ j′) b′
   same-byte p q r = rw (p, q, r)
 
   -- the two bytes of halfword j of block k
@@ -49,7 +57,8 @@ module _ (code : List ℕ) (w l : ℕ) where
         image-at (512 * k + 2 * j + 1) (omega arith) ∙ same-byte block place byte
 
   -- a block's halfwords before the last: the header, the code, and 0 past the code's end
-  pub body-header : (k j h : ℕ) → j < headerHalfwords → h ≡ getD (headerOf code w l k) j 0 → h ≡ bodyHalfword code w l k j
+  pub body-header : (k j h : ℕ) → j < headerHalfwords → h ≡ getD (headerOf code w l k) j 0
+      → h ≡ bodyHalfword code w l k j
   unfolding bodyHalfword
   body-header k j h less e = simp (lt-ltb j 6 less) e
 
@@ -69,7 +78,8 @@ module _ (code : List ℕ) (w l : ℕ) where
   unfolding imageHalfword
   body-at k j h = simp (lt-ltb j 255 h)
 
-  pub balance-is : (k r s : ℕ) → s ≡ sumBelow (bodyHalfword code w l k) (blockHalfwords - 1) → r < 65536 → (r + s) % 65536 ≡ 0 → r ≡ balanceOf code w l k
+  pub balance-is : (k r s : ℕ) → s ≡ sumBelow (bodyHalfword code w l k) (blockHalfwords - 1)
+      → r < 65536 → (r + s) % 65536 ≡ 0 → r ≡ balanceOf code w l k
   unfolding balanceOf
   balance-is k r s q h e =
       let less : s < 65536 = rw q (sum-less (bodyHalfword code w l k) 255) in
@@ -80,36 +90,46 @@ module _ (code : List ℕ) (w l : ℕ) where
   balance-at k = refl
 
   -- the blocks before block k are written, and nothing of it
-  pub written-none : (k : ℕ) (out : List ℕ) → take (blockBytes * k) out ≡ take (blockBytes * k) (imageOf code w l) → Written code w l k 0 out 0
+  pub written-none : (k : ℕ) (out : List ℕ) → take (blockBytes * k) out ≡ take (blockBytes * k) (imageOf code w l)
+      → Written code w l k 0 out 0
   unfolding sumBelow
-  written-none k out e = let start : 512 * k + 2 * 0 ≡ 512 * k = omega arith in (refl, rw start e)
+  written-none k out e =
+      let start : 512 * k + 2 * 0 ≡ 512 * k = omega arith in
+      record { sum-is = refl; same = rw start e }
 
   -- a halfword put after what is written of block k
-  module _ (k j p : ℕ) (out next : List ℕ) (h sum : ℕ) (room : Room code k out) (so : Written code w l k j out sum) (place : p ≡ blockBytes * k + 2 * j)
-      (store : next ≡ withHalfword out p h) where
-    put : j < blockHalfwords → h ≡ imageHalfword code w l k j → take (blockBytes * k + 2 * j + 2) next ≡ take (blockBytes * k + 2 * j + 2) (imageOf code w l)
+  module _ (k j p : ℕ) (out next : List ℕ) (h sum : ℕ) (room : Room code k out) (so : Written code w l k j out sum)
+      (place : p ≡ blockBytes * k + 2 * j) (store : next ≡ withHalfword out p h) where
+    put : j < blockHalfwords → h ≡ imageHalfword code w l k j
+        → take (blockBytes * k + 2 * j + 2) next ≡ take (blockBytes * k + 2 * j + 2) (imageOf code w l)
     put hj q =
         ap (take (512 * k + 2 * j + 2)) (store ∙ ap (λ (a : ℕ). withHalfword out a h) place)
-        ∙ two-more out (imageOf code w l) (512 * k + 2 * j) (h % 256) (h / 256) (so .1) (omega (arith, room)) (rw image-length (omega (arith, room)))
-        (ap (λ (x : ℕ). x % 256) q ∙ sym (image-low k j (room .1) hj))
-        (ap (λ (x : ℕ). x / 256) q ∙ sym (image-high k j (room .1) hj))
+        ∙ two-more out (imageOf code w l) (512 * k + 2 * j) (h % 256) (h / 256)
+        (so .same) (omega (arith, room)) (rw image-length (omega (arith, room)))
+        (ap (λ (x : ℕ). x % 256) q ∙ sym (image-low k j (room .in-image) hj))
+        (ap (λ (x : ℕ). x / 256) q ∙ sym (image-high k j (room .in-image) hj))
 
     -- one more, before the last
-    pub written-more : (r : ℕ) → j < blockHalfwords - 1 → h ≡ bodyHalfword code w l k j → r ≡ addedTo sum h → Written code w l k (j + 1) next r
+    pub written-more : (r : ℕ) → j < blockHalfwords - 1 → h ≡ bodyHalfword code w l k j → r ≡ addedTo sum h
+        → Written code w l k (j + 1) next r
     unfolding sumBelow
     written-more r hj q e =
         let step : 512 * k + 2 * (j + 1) ≡ 512 * k + 2 * j + 2 = omega arith in
-        (rw add-one (e ∙ ap₂ addedTo (so .0) q), rw step (put (omega arith) (q ∙ sym (body-at k j hj))))
+        record {
+          sum-is = rw add-one (e ∙ ap₂ addedTo (so .sum-is) q);
+          same = rw step (put (omega arith) (q ∙ sym (body-at k j hj)));
+        }
 
     -- a 0, which adds nothing to the sum
     pub written-zero : codeEnd code k ≤ j → j < blockHalfwords - 1 → h ≡ 0 → Written code w l k (j + 1) next sum
     written-zero end hj z =
         let less : sumBelow (bodyHalfword code w l k) j < 65536 = sum-less (bodyHalfword code w l k) j in
-        written-more sum hj (z ∙ sym (body-zero k j end hj)) (omega (arith, so .0, less, z))
+        written-more sum hj (z ∙ sym (body-zero k j end hj)) (omega (arith, so .sum-is, less, z))
 
     -- the last
-    pub written-all : j ≡ blockHalfwords - 1 → h < 65536 → (h + sum) % 65536 ≡ 0 → take (blockBytes * k + blockBytes) next ≡ take (blockBytes * k + blockBytes) (imageOf code w l)
+    pub written-all : j ≡ blockHalfwords - 1 → h < 65536 → (h + sum) % 65536 ≡ 0
+        → take (blockBytes * k + blockBytes) next ≡ take (blockBytes * k + blockBytes) (imageOf code w l)
     written-all hj less e =
         let step : 512 * k + 512 ≡ 512 * k + 2 * j + 2 = omega arith in
-        let is = balance-is k h sum (so .0 ∙ ap (sumBelow (bodyHalfword code w l k)) hj) less e in
+        let is = balance-is k h sum (so .sum-is ∙ ap (sumBelow (bodyHalfword code w l k)) hj) less e in
         rw step (put (omega arith) (is ∙ sym (balance-at k) ∙ ap (imageHalfword code w l k) (sym hj)))

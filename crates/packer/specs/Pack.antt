@@ -1,4 +1,5 @@
--- The image of a code and its window ("Image blocks", the table), and the packer's checks 15, 8 and 16 ("The questions").
+-- The image of a code and its window ("Image blocks", the table), and the packer's checks 15, 8 and 16
+-- ("The questions").
 use mathlib.Core.Bool.{Bool, _&&_, cond}
 use mathlib.Core.List.{List, [], _∷_}
 use Prim.Native.Nat.{ℕ, _+_, _-_, _*_, _/_, _%_, min}

@@ -45,7 +45,8 @@ fn check_pack(code: &[u16], w: u16, l: u16, size: usize) -> Answer
 // Makes the image of `code` with the window of `l` bytes from `w`. Refused, it
 // changes no byte. What the code says is not looked at.
 pub fn pack(code: &[u16], w: u16, l: u16, out: &mut [u8]) -> Packed
-    ensures { λ r. ⌜ (r ≡ packOf (now (code .entry)) w l (length (now (out .entry)))) × (now (out .exit) ≡ outputOf (now (code .entry)) w l (now (out .entry))) ⌝ }
+    ensures { λ r. ⌜ (r ≡ packOf (now (code .entry)) w l (length (now (out .entry))))
+        × (now (out .exit) ≡ outputOf (now (code .entry)) w l (now (out .entry))) ⌝ }
 {
     let answer = check_pack(code, w, l, out.len());
     match answer {

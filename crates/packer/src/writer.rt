@@ -73,7 +73,8 @@ fn write_header(code: &[u16], w: u16, l: u16, k: usize, out: &mut [u8]) -> u16
 // a time.
 fn write_code(code: &[u16], k: usize, out: &mut [u8], header: u16) -> u16
     requires { ⌜ Room (now code) k (now out) ⌝ }
-    ensures { λ r. ⌜ ((w l : ℕ) → Written (now (code .entry)) w l k headerHalfwords (now (out .entry)) header → Written (now (code .entry)) w l k (codeEnd (now (code .entry)) k) (now (out .exit)) r) ⌝ }
+    ensures { λ r. ⌜ ((w l : ℕ) → Written (now (code .entry)) w l k headerHalfwords (now (out .entry)) header
+        → Written (now (code .entry)) w l k (codeEnd (now (code .entry)) k) (now (out .exit)) r) ⌝ }
 {
     let start = BLOCK_BYTES * k + HEADER_BYTES;
     let first = BLOCK_CODE * k;
@@ -92,7 +93,9 @@ fn write_code(code: &[u16], k: usize, out: &mut [u8], header: u16) -> u16
 // Writes zeros after the code of block `k`, up to its last halfword.
 fn write_zeros(code: &[u16], k: usize, out: &mut [u8])
     requires { ⌜ Room (now code) k (now out) ⌝ }
-    ensures { λ _. ⌜ ((w l sum : ℕ) → Written (now (code .entry)) w l k (codeEnd (now (code .entry)) k) (now (out .entry)) sum → Written (now (code .entry)) w l k (blockHalfwords - 1) (now (out .exit)) sum) ⌝ }
+    ensures { λ _. ⌜ ((w l sum : ℕ)
+        → Written (now (code .entry)) w l k (codeEnd (now (code .entry)) k) (now (out .entry)) sum
+        → Written (now (code .entry)) w l k (blockHalfwords - 1) (now (out .exit)) sum) ⌝ }
 {
     let start = BLOCK_BYTES * k;
     let mut j = HEADER_HALFWORDS + used_in(code.len(), k) as usize;
@@ -107,7 +110,8 @@ fn write_zeros(code: &[u16], k: usize, out: &mut [u8])
 fn write_block(code: &[u16], w: u16, l: u16, k: usize, out: &mut [u8])
     requires { ⌜ Room (now code) k (now out) ⌝ }
     requires { ⌜ take (blockBytes * k) (now out) ≡ take (blockBytes * k) (imageOf (now code) w l) ⌝ }
-    ensures { λ _. ⌜ take (blockBytes * k + blockBytes) (now (out .exit)) ≡ take (blockBytes * k + blockBytes) (imageOf (now (code .entry)) w l) ⌝ }
+    ensures { λ _. ⌜ take (blockBytes * k + blockBytes) (now (out .exit))
+        ≡ take (blockBytes * k + blockBytes) (imageOf (now (code .entry)) w l) ⌝ }
 {
     let header = write_header(code, w, l, k, out);
     let sum = write_code(code, k, out, header);

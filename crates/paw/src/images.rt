@@ -36,7 +36,8 @@ pub extern "C" fn paw_block(file: &[u8], n: usize) -> u64
 // leaves the output as it was.
 #[no_mangle]
 pub extern "C" fn paw_pack(code: &[u16], w: u16, l: u16, out: &mut [u8]) -> u32
-    ensures { λ r. ⌜ (r ≡ packedNumber (packOf (now (code .entry)) w l (length (now (out .entry))))) × (now (out .exit) ≡ outputOf (now (code .entry)) w l (now (out .entry))) ⌝ }
+    ensures { λ r. ⌜ (r ≡ packedNumber (packOf (now (code .entry)) w l (length (now (out .entry)))))
+        × (now (out .exit) ≡ outputOf (now (code .entry)) w l (now (out .entry))) ⌝ }
 {
     answers::packed_number(packer::pack(code, w, l, out))
 }

@@ -15,7 +15,9 @@ ghost use Rattle.endings.specs.Endings.{numbered, numberedStep, numberedRun};
 // where; all are 0 if it touched none.
 #[no_mangle]
 pub extern "C" fn paw_step(m: &mut Machine, memory: &mut [u8]) -> u32
-    ensures { λ r. ⌜ numbered (now (m .exit)) (now (memory .exit)) r ≡ numberedStep (stepOf (now (m .entry)) (now (memory .entry))) (stepTraffic (now (m .entry)) (now (memory .entry))) ⌝ }
+    ensures { λ r. ⌜ numbered (now (m .exit)) (now (memory .exit)) r
+        ≡ numberedStep (stepOf (now (m .entry)) (now (memory .entry)))
+        (stepTraffic (now (m .entry)) (now (memory .entry))) ⌝ }
 {
     let stepped = endings::step_numbered(*m, memory);
     *m = stepped.machine;
@@ -27,7 +29,9 @@ pub extern "C" fn paw_step(m: &mut Machine, memory: &mut [u8]) -> u32
 // completed step touched; the upper 32 are the steps completed.
 #[no_mangle]
 pub extern "C" fn paw_run(m: &mut Machine, memory: &mut [u8], budget: u32) -> u64
-    ensures { λ r. ⌜ numbered (now (m .exit)) (now (memory .exit)) r ≡ numberedRun (runOf budget (now (m .entry)) (now (memory .entry))) (runTraffic budget (now (m .entry)) (now (memory .entry))) ⌝ }
+    ensures { λ r. ⌜ numbered (now (m .exit)) (now (memory .exit)) r
+        ≡ numberedRun (runOf budget (now (m .entry)) (now (memory .entry)))
+        (runTraffic budget (now (m .entry)) (now (memory .entry))) ⌝ }
 {
     let ran = endings::run_numbered(*m, memory, budget);
     *m = ran.machine;

@@ -15,7 +15,8 @@ pub extern "C" fn paw_verify(file: &[u8]) -> u64
 // Puts checks 1 to 14 and loads the program. A refusal leaves memory as it was.
 #[no_mangle]
 pub extern "C" fn paw_load(file: &[u8], memory: &mut [u8]) -> u64
-    ensures { λ r. ⌜ (r ≡ loadedWord (loadOf (now (file .entry)) (now (memory .entry)))) × (now (memory .exit) ≡ memoryAfterLoad (now (file .entry)) (now (memory .entry))) ⌝ }
+    ensures { λ r. ⌜ (r ≡ loadedWord (loadOf (now (file .entry)) (now (memory .entry))))
+        × (now (memory .exit) ≡ memoryAfterLoad (now (file .entry)) (now (memory .entry))) ⌝ }
 {
     answers::loaded_word(loader::load(file, memory))
 }

@@ -7,7 +7,8 @@ use image::check;
 use refusals::Refusal;
 ghost use mathlib.Core.Path.{_≡_};
 ghost use Rattle.image.specs.Check.{checkOf};
-ghost use Rattle.reader.specs.Reader.{blockAt, givenAs, givenOf, bytesOf, afterOf, openOf, answerOf, nextOf, afterNext};
+ghost use Rattle.reader.specs.Reader.{blockAt, givenAs, givenOf, bytesOf, afterOf, openOf, answerOf, nextOf};
+ghost use Rattle.reader.specs.Reader.{afterNext};
 
 // What a reader answers to a call: why its file is refused, a block, by the byte
 // of the file at which the block starts, or that none is left.

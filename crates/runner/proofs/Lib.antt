@@ -1,3 +1,4 @@
 pub mod Turns
 pub mod Noted
 pub mod Traffic
+mod Loop

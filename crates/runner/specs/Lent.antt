@@ -17,7 +17,8 @@ lent regs s = bare regs (flagsOf s)
 abbrev pub unnotedRun : RunResult → RunResult
 unnotedRun r = runResult (withNote 0 (r .state .machine)) (r .state .memory) (r .outcome) (r .count)
 
--- the note after a run that ended so, where the byte at the PC and the note before are given: HALT sets it, on which the PC still stands
+-- the note after a run that ended so, where the byte at the PC and the note before are given: HALT sets it, on which
+-- the PC still stands
 abbrev pub noteLeft : RunOutcome → ℕ → ℕ → ℕ
 noteLeft ended.Spent low before = before
 noteLeft ended.Halted low before = low

@@ -1,4 +1,5 @@
--- What a run tells of memory (Change 2): it passes on what its last completed step touched, and says no data when it made none.
+-- What a run tells of memory (Change 2): it passes on what its last completed step touched, and says no data when it
+-- made none.
 use mathlib.Core.List.{List}
 use Prim.Native.Nat.{ℕ, zero, suc}
 use Rattle.cpu.specs.declared.machine.Machine.{Machine}

@@ -16,7 +16,7 @@ ghost use Rattle.cpu.specs.Held.{held, Whole};
 ghost use Rattle.runner.specs.Run.{runResult, runOf};
 ghost use Rattle.traffic.specs.Log.{emptyLog, lastLogged};
 ghost use Rattle.runner.specs.Traffic.{runTraffic};
-ghost use Rattle.runner.specs.Ends.{asRun};
+ghost use Rattle.runner.specs.Ends.{asRun, Ended};
 ghost use Rattle.runner.specs.Lent.{lent, unnotedRun};
 
 // The flags after a run, how it ended, and the steps completed.
@@ -40,7 +40,8 @@ fn run_outcome(outcome: Outcome) -> RunOutcome
 
 // The PC goes back into R15.
 fn ended(regs: &mut [u16; 16], k: Control, outcome: Outcome, count: u32) -> RanLent
-    ensures { λ r. ⌜ (lent (now (regs .exit)) (r .status) ≡ held (now (regs .entry)) k) × (r .outcome ≡ asRun outcome) × (r .count ≡ count) ⌝ }
+    ensures { λ r. ⌜ Ended (lent (now (regs .exit)) (r .status)) (r .outcome) (r .count)
+        (held (now (regs .entry)) k) outcome count ⌝ }
 {
     regs[15] = k.pc;
     RanLent {
@@ -62,8 +63,10 @@ pub fn run_lent(
     log: &mut [u32; 2],
 ) -> RanLent
     requires { ⌜ Whole (now regs) × (now log ≡ emptyLog) ⌝ }
-    ensures { λ r. ⌜ runResult (lent (now (regs .exit)) (r .status)) (now (memory .exit)) (r .outcome) (r .count) ≡ unnotedRun (runOf budget (lent (now (regs .entry)) s) (now (memory .entry))) ⌝ }
-    ensures { λ r. ⌜ lastLogged (r .count) (now (log .exit)) ≡ runTraffic budget (lent (now (regs .entry)) s) (now (memory .entry)) ⌝ }
+    ensures { λ r. ⌜ runResult (lent (now (regs .exit)) (r .status)) (now (memory .exit)) (r .outcome) (r .count)
+        ≡ unnotedRun (runOf budget (lent (now (regs .entry)) s) (now (memory .entry))) ⌝ }
+    ensures { λ r. ⌜ lastLogged (r .count) (now (log .exit))
+        ≡ runTraffic budget (lent (now (regs .entry)) s) (now (memory .entry)) ⌝ }
 {
     if memory.len() != MEMORY_BYTES {
         return RanLent {

@@ -29,7 +29,8 @@ pub struct Ran {
 
 // Steps until `budget` of them are completed or one doesn't complete.
 pub fn run(m: Machine, memory: &mut [u8], budget: u32) -> Ran
-    ensures { λ r. ⌜ runResult (r .machine) (now (memory .exit)) (r .outcome) (r .count) ≡ runOf budget m (now (memory .entry)) ⌝ }
+    ensures { λ r. ⌜ runResult (r .machine) (now (memory .exit)) (r .outcome) (r .count)
+        ≡ runOf budget m (now (memory .entry)) ⌝ }
     ensures { λ r. ⌜ r .traffic ≡ runTraffic budget m (now (memory .entry)) ⌝ }
 {
     let mut regs = m.regs;

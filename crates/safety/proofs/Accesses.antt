@@ -6,7 +6,9 @@ use native.Mathlib.Omega.{arith}
 use borrow.Author.Tests.{eq-eqb, ne-eqb, leb-true}
 use Rattle.units.specs.Address.{wrap}
 use Rattle.isa.specs.declared.instruction.Instruction.{Instruction}
-use Rattle.isa.specs.declared.instruction.Instruction.the-variants.{MovImm, CmpImm, And, Eor, Asr, Tst, Neg, Cmp, AddHigh, CmpHigh, MovHigh, Str, Ldr, Strb, Ldrb, AddPc, Branch, Halt}
+use Rattle.isa.specs.declared.instruction.Instruction.the-variants.{MovImm, CmpImm, And, Eor, Asr, Tst, Neg, Cmp}
+use Rattle.isa.specs.declared.instruction.Instruction.the-variants.{AddHigh, CmpHigh, MovHigh, Str, Ldr, Strb, Ldrb}
+use Rattle.isa.specs.declared.instruction.Instruction.the-variants.{AddPc, Branch, Halt}
 use Rattle.image.specs.declared.checker.Layout.{Layout}
 use Rattle.domain_laws.specs.Holds.{Holds}
 use Rattle.domain_laws.proofs.Zeros.{zeros-less}
@@ -70,7 +72,8 @@ pub record SafeAccess (layout : Layout) (m : Machine) (access : Access) : Type 0
   pub aligned : access .size ≡ 2 → dataAddress m access % 4 ≡ 0
 
 -- an address between the bounds of a window in memory does not wrap
-in-window : (x low high offset size w l : ℕ) → low ≤ x → x ≤ high → 0 < size → w ≤ low + offset → high + offset + size ≤ w + l → w + l ≤ 65536
+in-window : (x low high offset size w l : ℕ) → low ≤ x → x ≤ high → 0 < size → w ≤ low + offset
+    → high + offset + size ≤ w + l → w + l ≤ 65536
     → (w ≤ wrap (x + offset)) × (wrap (x + offset) + size ≤ w + l)
 in-window x low high offset size w l a b s p q m = (omega arith, omega arith)
 
@@ -115,7 +118,8 @@ access-safe s m layout i narrow holds fits c10 c11 = record { inside = inside; a
 
 -- no data are safe
 pub quiet-safe : (layout : Layout) → SafeTraffic layout NoData
-quiet-safe layout = record { inside = λ some. absurd (omega (arith, some)); aligned = λ two. absurd (omega (arith, two)) }
+quiet-safe layout =
+    record { inside = λ some. absurd (omega (arith, some)); aligned = λ two. absurd (omega (arith, two)) }
 
 -- and so are those of a safe access, however its step ends
 pub traffic-safe : (layout : Layout) (m : Machine) (i : Instruction) → SafeAccess layout m (accessOf i) → (o : Outcome)
@@ -123,7 +127,9 @@ pub traffic-safe : (layout : Layout) (m : Machine) (i : Instruction) → SafeAcc
 traffic-safe layout m i safe Completed =
     let told = tells-access i m in
     record {
-      inside = λ some. let size : 0 < accessOf i .size = omega (arith, told .bytes) in rw (told .bytes, told .address size) (safe .inside size);
+      inside = λ some.
+          let size : 0 < accessOf i .size = omega (arith, told .bytes) in
+          rw (told .bytes, told .address size) (safe .inside size);
       aligned = λ two. rw (told .address (omega (arith, told .bytes))) (safe .aligned (sym (told .bytes) ∙ two));
     }
 traffic-safe layout m i safe Halted = quiet-safe layout
@@ -131,7 +137,8 @@ traffic-safe layout m i safe (Stopped number) = quiet-safe layout
 traffic-safe layout m i safe (Refused r) = quiet-safe layout
 
 -- and then each byte of them is in the window
-pub data-in-window : (layout : Layout) (t : Traffic) → SafeTraffic layout t → (a : ℕ) → Touches t a → InWindow layout a 1
+pub data-in-window : (layout : Layout) (t : Traffic) → SafeTraffic layout t → (a : ℕ) → Touches t a
+    → InWindow layout a 1
 data-in-window layout t safe a d =
     let p = safe .inside (omega (arith, d .from, d .below)) in
     (omega (arith, p .0, d .from), omega (arith, p .1, d .below))

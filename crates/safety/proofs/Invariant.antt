@@ -17,9 +17,7 @@ use Rattle.isa.specs.declared.decoder.Decoded.the-variants.{Defined}
 use Rattle.isa.specs.declared.instruction.Instruction.{Instruction}
 use Rattle.isa.specs.declared.instruction.Instruction.the-variants.{Halt}
 use Rattle.image.specs.declared.checker.Layout.{Layout}
-use Rattle.targets.specs.Jumps.{jumpOf}
 use Rattle.targets.specs.Targets.{addressOf, decodedAt, goesTo, targeted}
-use Rattle.targets.specs.declared.branch.Target.the-variants.{To}
 use Rattle.isa.specs.Access.{accessOf}
 use Rattle.checks.specs.State.{transferOf, afterOf}
 use Rattle.verifier.specs.Verify.{entering, valuesAt}
@@ -36,13 +34,14 @@ use Rattle.cpu.proofs.Endings.{halted-not-completed}
 use Rattle.cpu_laws.proofs.Steps.{step-decoded}
 use Rattle.cpu_laws.proofs.Sizes.{step-sized}
 use Rattle.safety.specs.Safety.{InWindow, SafeTraffic}
-use Rattle.safety.proofs.Registers.{HoldsBelow, Moved, standing-holds}
+use Rattle.safety.proofs.Registers.{HoldsBelow, standing-holds}
 use Rattle.isa_laws.proofs.Claims.{halt-notes}
 use Rattle.isa_laws.proofs.Narrow.{Narrow, decoded-narrow}
-use Rattle.safety.proofs.Steps.{IsHalt, Completes, step-case}
+use Rattle.safety.proofs.Steps.{IsHalt, here, MovedTo, Branched, Completes, step-case}
 use Rattle.safety.proofs.Accesses.{SafeAccess, access-safe, traffic-safe, data-in-window}
 use Rattle.cpu_laws.proofs.Touched.{step-keeps}
 use Rattle.verifier.proofs.Walk.{length-entering, length-values}
+use Rattle.verifier_laws.specs.Passes.{Passes}
 use Rattle.safety.proofs.Fitness.{FitCode}
 
 -- ---- the invariant, of a code and layout, and of the memory at the start
@@ -59,7 +58,8 @@ pub record Inv (code : List ℕ) (layout : Layout) (start : List ℕ) (s : State
 abbrev pub HoldsHalfwords : List ℕ → List ℕ → Type 0
 HoldsHalfwords code start = (i : ℕ) → i < length code → halfwordAt start (2 * i) ≡ getD code i 0
 
-module _ (code : List ℕ) (layout : Layout) (start : List ℕ) (fit : FitCode code layout) (there : HoldsHalfwords code start) where
+module _ (code : List ℕ) (layout : Layout) (start : List ℕ)
+    (fit : FitCode code layout) (there : HoldsHalfwords code start) where
   address-is : (i : ℕ) → i < length code → addressOf i .0 ≡ 2 * i
   address-is i h = omega (arith, fit .short)
 
@@ -67,7 +67,8 @@ module _ (code : List ℕ) (layout : Layout) (start : List ℕ) (fit : FitCode c
   pub arrive : (i : ℕ) (regs : List ℕ) → i < length code → getD regs 15 0 ≡ 2 * i → Registers regs
       → (targeted code i ≡ false → HoldsBelow 15 (entering code i) regs) → HoldsBelow 16 (valuesAt code i) regs
   arrive i regs h e sized holds =
-      standing-holds (addressOf i) (targeted code i) (entering code i) regs (omega arith) (e ∙ sym (address-is i h)) (length-entering code i) sized holds
+      standing-holds (addressOf i) (targeted code i) (entering code i) regs
+      (omega arith) (e ∙ sym (address-is i h)) (length-entering code i) sized holds
 
   module _ (s : State) (inv : Inv code layout start s) where
     abbrev m : Machine
@@ -76,11 +77,17 @@ module _ (code : List ℕ) (layout : Layout) (start : List ℕ) (fit : FitCode c
     abbrev i : ℕ
     i = inv .index
 
-    abbrev regs′ : List ℕ
-    regs′ = executeOf (fit .passed (inv .index) (inv .inside) .instruction) (s .machine) (s .memory) .state .machine .regs
+    abbrev passed : Passes code layout i
+    passed = fit .passed (inv .index) (inv .inside)
 
     abbrev ins : Instruction
-    ins = fit .passed (inv .index) (inv .inside) .instruction
+    ins = passed .instruction
+
+    abbrev after : StepResult
+    after = executeOf ins m (s .memory)
+
+    abbrev regs′ : List ℕ
+    regs′ = after .state .machine .regs
 
     even : pc m % 2 ≡ 0
     even = omega (arith, inv .here)
@@ -91,14 +98,15 @@ module _ (code : List ℕ) (layout : Layout) (start : List ℕ) (fit : FitCode c
     -- the halfword at the PC is the code's
     fetch-is : halfwordAt (s .memory) (pc m) ≡ getD code i 0
     fetch-is =
-        rw (inv .here)
-        (omega (arith, code-kept (2 * inv .index) (omega (arith, fit .size, inv .inside)), code-kept (2 * inv .index + 1) (omega (arith, fit .size, inv .inside)), there (inv .index) (inv .inside)))
+        let low = code-kept (2 * i) (omega (arith, fit .size, inv .inside)) in
+        let high = code-kept (2 * i + 1) (omega (arith, fit .size, inv .inside)) in
+        rw (inv .here) (omega (arith, low, high, there i (inv .inside)))
 
     pub fetched-is : fetched m (s .memory) ≡ Defined ins
     unfolding fetched decodedAt
-    fetched-is = ap decodeOf fetch-is ∙ fit .passed (inv .index) (inv .inside) .passes9
+    fetched-is = ap decodeOf fetch-is ∙ passed .passes9
 
-    pub step-is : stepOf m (s .memory) ≡ executeOf ins m (s .memory)
+    pub step-is : stepOf m (s .memory) ≡ after
     step-is = step-decoded m (s .memory) (Defined ins) (inv .sized .bytes .count) even fetched-is
 
     narrow : Narrow ins
@@ -107,7 +115,8 @@ module _ (code : List ℕ) (layout : Layout) (start : List ℕ) (fit : FitCode c
 
     safe-access : SafeAccess layout m (accessOf ins)
     safe-access =
-        access-safe (valuesAt code i) m layout ins narrow (inv .holds) (fit .in-memory) (fit .passed (inv .index) (inv .inside) .passes10) (fit .passed (inv .index) (inv .inside) .passes11)
+        access-safe (valuesAt code i) m layout ins narrow (inv .holds) (fit .in-memory)
+        (passed .passes10) (passed .passes11)
 
     -- however the step ends
     pub safe-data : (o : Outcome) → SafeTraffic layout (whenCompleted o (trafficOf ins m))
@@ -117,28 +126,37 @@ module _ (code : List ℕ) (layout : Layout) (start : List ℕ) (fit : FitCode c
     unfolding stepTraffic
     safe-traffic = rw fetched-is (safe-data (stepOf m (s .memory) .outcome))
 
-    here-is : addressOf i ≡ record { 0 = pc m }
+    here-is : addressOf i ≡ here m
     here-is = ap (λ (a : ℕ). record { 0 = a }) (address-is i (inv .inside) ∙ sym (inv .here))
 
     small-halts : getD code i 0 < 256 → IsHalt ins
     unfolding decodedAt
     small-halts e =
-        let d : Defined (Halt (getD code i 0)) ≡ Defined ins = sym (halt-notes .all-below (getD code i 0) e) ∙ fit .passed (inv .index) (inv .inside) .passes9 in
-        (getD code i 0, cc)
+        let note = getD code i 0 in
+        let d : Defined (Halt note) ≡ Defined ins = sym (halt-notes .all-below note e) ∙ passed .passes9 in
+        (note, cc)
 
     -- the last instruction is HALT
     not-last : (IsHalt ins → ⊥) → suc i < length code
     not-last h = go (ℕ-discrete (suc i) (length code))
       where
-        go : Dec (suc (inv .index) ≡ length code) → suc (inv .index) < length code
-        go (yes e) = absurd (h (small-halts (ltb-true _ _ (simp (eq-eqb _ _ e) at (fit .passed (inv .index) (inv .inside) .passes14)))))
+        go : Dec (suc i ≡ length code) → suc i < length code
+        go (yes e) = absurd (h (small-halts (ltb-true _ _ (simp (eq-eqb _ _ e) at (passed .passes14)))))
         go (no n) = omega (arith, inv .inside)
 
+    -- a byte outside the window is not written
+    untouched : (a : ℕ) → (InWindow layout a 1 → ⊥)
+        → byteAt (stepOf m (s .memory) .state .memory) a ≡ byteAt (s .memory) a
+    untouched a out =
+        step-keeps m (s .memory) .others a
+        (λ written. out (data-in-window layout (trafficAt s) safe-traffic a (written .touches)))
+
     -- what a step has left, at instruction j
-    arrived : (j : ℕ) → j < length code → getD regs′ 15 0 ≡ 2 * j → (targeted code j ≡ false → HoldsBelow 15 (entering code j) regs′)
-        → Inv code layout start (executeOf ins m (s .memory) .state)
+    arrived : (j : ℕ) → j < length code → getD regs′ 15 0 ≡ 2 * j
+        → (targeted code j ≡ false → HoldsBelow 15 (entering code j) regs′) → Inv code layout start (after .state)
     arrived j hj e holds =
-        let sized : Sized (executeOf ins m (s .memory) .state) = subst (λ (r : StepResult). Sized (r .state)) step-is (step-sized s (inv .sized)) in
+        let sized : Sized (after .state) =
+        subst (λ (r : StepResult). Sized (r .state)) step-is (step-sized s (inv .sized)) in
         record {
           sized = sized;
           index = j;
@@ -146,43 +164,53 @@ module _ (code : List ℕ) (layout : Layout) (start : List ℕ) (fit : FitCode c
           here = e;
           holds = arrive j regs′ hj e (sized .registers) holds;
           kept = λ a h. subst (λ (r : StepResult). byteAt (r .state .memory) a ≡ byteAt (s .memory) a) step-is
-              (step-keeps m (s .memory) .others a (λ w. h (data-in-window layout (trafficAt s) safe-traffic a (w .touches)))) ∙ inv .kept a h;
+              (untouched a h) ∙ inv .kept a h;
         }
 
     -- what falls into the next instruction is what this one leaves
-    entered : entering code (suc i) ≡ transferOf (record { 0 = pc m }) ins (valuesAt code i)
+    entered : entering code (suc i) ≡ transferOf (here m) ins (valuesAt code i)
     unfolding entering
     entered =
-        ap (λ (d : Decoded). afterOf (addressOf i) d (valuesAt code i)) (fit .passed (inv .index) (inv .inside) .passes9)
+        ap (λ (d : Decoded). afterOf (addressOf i) d (valuesAt code i)) (passed .passes9)
         ∙ ap (λ (a : ByteAddress). transferOf a ins (valuesAt code i)) here-is
 
     -- by falling into the next instruction
-    fell : (IsHalt ins → ⊥) → Moved (transferOf (record { 0 = pc m }) ins (valuesAt code i)) regs′ (wrap (pc m + 2)) → Inv code layout start (executeOf ins m (s .memory) .state)
+    fell : (IsHalt ins → ⊥) → MovedTo (valuesAt code i) ins m after (wrap (pc m + 2))
+        → Inv code layout start (after .state)
     fell h moved =
         let j : suc i < length code = not-last h in
-        arrived (suc i) j (omega (arith, moved .pc, inv .here, fit .short))
-        (λ f. rw entered (moved .holds))
+        arrived (suc i) j (omega (arith, moved .pc, inv .here, fit .short)) (λ f. rw entered (moved .holds))
 
     -- by a branch
-    branched : (t : ByteAddress) → jumpOf (record { 0 = pc m }) ins ≡ To t → t .0 % 2 ≡ 0 → Moved (transferOf (record { 0 = pc m }) ins (valuesAt code i)) regs′ (t .0)
-        → Inv code layout start (executeOf ins m (s .memory) .state)
+    branched : Branched (valuesAt code i) ins m after → Inv code layout start (after .state)
     unfolding goesTo
-    branched t e even-t moved =
-        let below : t .0 < layout .«code_bytes» = ltb-true _ _ (simp (here-is, e) at (fit .passed (inv .index) (inv .inside) .passes13)) in
-        let hit : targeted code (t .0 / 2) ≡ true = fit .hits i (t .0 / 2) (inv .inside) (simp (fit .passed (inv .index) (inv .inside) .passes9, here-is, e) (eq-eqb (t .0 / 2) (t .0 / 2) refl)) in
-        arrived (t .0 / 2) (omega (arith, fit .size)) (omega (arith, moved .pc))
-        (λ f. absurd (false≢true (sym f ∙ hit)))
+    branched b =
+        let t : ByteAddress = b .target in
+        let j : ℕ = t .0 / 2 in
+        let even-t = b .even even in
+        let below : t .0 < layout .«code_bytes» = ltb-true _ _ (simp (here-is, b .jumps) at (passed .passes13)) in
+        let hit : targeted code j ≡ true =
+        fit .hits i j (inv .inside) (simp (passed .passes9, here-is, b .jumps) (eq-eqb j j refl)) in
+        arrived j (omega (arith, fit .size)) (omega (arith, b .moved .pc)) (λ f. absurd (false≢true (sym f ∙ hit)))
+
+    -- HALT does not complete
+    running : Completes (valuesAt code i) ins m after → IsHalt ins → ⊥
+    unfolding executeOf
+    running c e =
+        halted-not-completed
+        (ap (λ (j : Instruction). executeOf j m (s .memory) .outcome) (sym (e .1)) ∙ c .outcome)
+
+    completes : Completes (valuesAt code i) ins m after → Inv code layout start (after .state)
+    completes c = ⊎-elim (fell (running c)) branched (c .moved)
 
     -- a step of the run halts, where HALT is, or completes and leads to a state of the same kind
-    pub next : ((outcomeAt s ≡ Halted) × (fetched m (s .memory) ≡ Defined (Halt (nextState s .machine .note)))) ⊎ ((outcomeAt s ≡ Completed) × Inv code layout start (nextState s))
+    pub next : ((outcomeAt s ≡ Halted) × (fetched m (s .memory) ≡ Defined (Halt (nextState s .machine .note))))
+        ⊎ ((outcomeAt s ≡ Completed) × Inv code layout start (nextState s))
     unfolding executeOf
     next =
         rw (outcomeAt, nextState, step-is)
-        (⊎-elim (λ e. inl (rw (e .1) refl, fetched-is ∙ (rw (e .1) refl))) (λ c. inr (c .outcome, ⊎-elim (λ moved. fell (running c) moved) (λ j. branched (j .0) (j .1) (j .2 even) (j .3)) (c .moved)))
-        (step-case (valuesAt code i) m (s .memory) (length-values code i) (inv .sized .registers) (inv .holds) (inv .sized .bytes) ins narrow
-        (fit .passed (inv .index) (inv .inside) .passes12) (safe-access .aligned)))
-      where
-        running : Completes (valuesAt code (inv .index)) (fit .passed (inv .index) (inv .inside) .instruction) (s .machine) (executeOf (fit .passed (inv .index) (inv .inside) .instruction) (s .machine) (s .memory))
-            → IsHalt (fit .passed (inv .index) (inv .inside) .instruction) → ⊥
-        running c e =
-            halted-not-completed (ap (λ (j : Instruction). executeOf j (s .machine) (s .memory) .outcome) (sym (e .1)) ∙ c .outcome)
+        (⊎-elim
+        (λ e. inl (rw (e .1) refl, fetched-is ∙ (rw (e .1) refl)))
+        (λ c. inr (c .outcome, completes c))
+        (step-case (valuesAt code i) m (s .memory) (length-values code i)
+        (inv .sized .registers) (inv .holds) (inv .sized .bytes) ins narrow (passed .passes12) (safe-access .aligned)))

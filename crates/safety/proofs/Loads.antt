@@ -11,6 +11,7 @@ use lib.ListN.{length, getD, List·getD-eq-default}
 use Rattle.units.specs.Address.{memoryBytes}
 use Rattle.refusals.specs.Refusal.{refusal}
 use Rattle.units.specs.Bytes.{byteAt, byteOf}
+use Rattle.units.proofs.Cases.{clash}
 use Rattle.image.proofs.Lists.{length-tabulate, tabulate-at}
 use Rattle.image.proofs.Valid.{code-halfword, code-fits}
 use Rattle.image.specs.Code.{codeOf}
@@ -30,17 +31,19 @@ pub record WasFit (file memory : List ℕ) (layout : Layout) : Type 0 where
 
 fit-layout : (v : Verdict) (layout : Layout) → loadedAs v ≡ Done layout → v ≡ verdict.Fit layout
 fit-layout (verdict.Fit x) layout e = let q : x ≡ layout = cc in ap verdict.Fit q
-fit-layout (verdict.Refused r) layout e = let z : _≡_ {A = ℕ} 0 1 = cc in absurd (omega arith)
+fit-layout (verdict.Refused r) layout e = clash (cc)
 
 pub was-fit : (file memory : List ℕ) (layout : Layout) → loadOf file memory ≡ Done layout → WasFit file memory layout
 unfolding loadOf
 was-fit file memory layout e = go (eqb (length memory) memoryBytes) refl e
   where
-    go : (t : Bool) → eqb (length memory) memoryBytes ≡ t → cond t (loadedAs (verifyOf file)) (Refused (refusal 1)) ≡ Done layout → WasFit file memory layout
+    go : (t : Bool) → eqb (length memory) memoryBytes ≡ t
+        → cond t (loadedAs (verifyOf file)) (Refused (refusal 1)) ≡ Done layout → WasFit file memory layout
     go true q d = record { size = eqb-true _ _ q; fit = fit-layout (verifyOf file) layout d }
-    go false q d = let z : _≡_ {A = ℕ} 0 1 = cc in absurd (omega arith)
+    go false q d = clash (cc)
 
-pub after-load : (file memory : List ℕ) (layout : Layout) → loadOf file memory ≡ Done layout → memoryAfterLoad file memory ≡ loadedMemory file layout memory
+pub after-load : (file memory : List ℕ) (layout : Layout) → loadOf file memory ≡ Done layout
+    → memoryAfterLoad file memory ≡ loadedMemory file layout memory
 unfolding memoryAfterLoad
 after-load file memory layout e = ap (λ (a : Loaded). memoryAs a file memory) e
 
@@ -58,9 +61,15 @@ code-word file bytes i = go (decLt i (length (codeOf file)))
   where
     go : Dec (i < length (codeOf file)) → getD (codeOf file) i 0 < 65536
     go (yes h) = rw (code-halfword file i h) (code-fits file i bytes)
-    go (no h) = let p : length (codeOf file) ≤ i = omega arith in rw (List·getD-eq-default (codeOf file) 0 p) (omega arith)
+    go (no h) =
+        let p : length (codeOf file) ≤ i = omega arith in
+        rw (List·getD-eq-default (codeOf file) 0 p) (omega arith)
 
-module _ (file memory : List ℕ) (file-bytes : (a : ℕ) → byteAt file a < 256) (memory-bytes : (a : ℕ) → byteAt memory a < 256) (layout : Layout) where
+module _ (file memory : List ℕ) (file-bytes : (a : ℕ) → byteAt file a < 256)
+    (memory-bytes : (a : ℕ) → byteAt memory a < 256) (layout : Layout) where
+  abbrev after : List ℕ
+  after = loadedMemory file layout memory
+
   loaded-byte : (a : ℕ) → loadedByte file layout memory a < 256
   unfolding codeByte
   loaded-byte a = go (ltb a (layout .«code_bytes»)) (inWindow layout a)
@@ -70,19 +79,21 @@ module _ (file memory : List ℕ) (file-bytes : (a : ℕ) → byteAt file a < 25
       go false true = omega arith
       go false false = memory-bytes a
 
-  loaded-long : length (loadedMemory file layout memory) ≡ memoryBytes
+  loaded-long : length after ≡ memoryBytes
   loaded-long = length-tabulate (loadedByte file layout memory) 0 memoryBytes
 
-  loaded-at : (a : ℕ) → a < memoryBytes → byteAt (loadedMemory file layout memory) a ≡ loadedByte file layout memory a
+  loaded-at : (a : ℕ) → a < memoryBytes → byteAt after a ≡ loadedByte file layout memory a
   loaded-at a h = tabulate-at (loadedByte file layout memory) memoryBytes a h
 
-  loaded-bytes : (a : ℕ) → byteAt (loadedMemory file layout memory) a < 256
+  loaded-bytes : (a : ℕ) → byteAt after a < 256
   loaded-bytes a = go (decLt a memoryBytes)
     where
-      go : Dec (a < memoryBytes) → byteAt (loadedMemory file layout memory) a < 256
+      go : Dec (a < memoryBytes) → byteAt after a < 256
       go (yes h) = rw (loaded-at a h) (loaded-byte a)
-      go (no h) = let p : length (loadedMemory file layout memory) ≤ a = omega (arith, loaded-long) in rw (List·getD-eq-default (loadedMemory file layout memory) 0 p) (omega arith)
+      go (no h) =
+          let p : length after ≤ a = omega (arith, loaded-long) in
+          rw (List·getD-eq-default after 0 p) (omega arith)
 
-  pub loaded-holds : layout .«code_bytes» ≤ memoryBytes → HoldsCode file layout (loadedMemory file layout memory)
+  pub loaded-holds : layout .«code_bytes» ≤ memoryBytes → HoldsCode file layout after
   loaded-holds c =
       record { size = loaded-long; bytes = loaded-bytes; code = λ a h. loaded-at a (omega arith) ∙ simp (lt-ltb _ _ h) }

@@ -22,8 +22,8 @@ abbrev pub HoldsBelow : ℕ → State → List ℕ → Type 0
 HoldsBelow n s regs = (r : ℕ) → r < n → Holds (value s r) (getD regs r 0)
 
 -- a register and its value are set together
-set-holds : (n : ℕ) (s : State) (regs : List ℕ) (d x : ℕ) (v : Value) → d < 16 → length s ≡ 16 → length regs ≡ 16 → HoldsBelow n s regs → Holds v x
-    → HoldsBelow n (set s d v) (set regs d x)
+set-holds : (n : ℕ) (s : State) (regs : List ℕ) (d x : ℕ) (v : Value) → d < 16 → length s ≡ 16 → length regs ≡ 16
+    → HoldsBelow n s regs → Holds v x → HoldsBelow n (set s d v) (set regs d x)
 set-holds n s regs d x v hd hs hr h hv r hl = go (ℕ-discrete r d)
   where
     go : Dec (r ≡ d) → Holds (value (set s d v) r) (getD (set regs d x) r 0)
@@ -44,25 +44,29 @@ pub record Moved (s : State) (regs : List ℕ) (at : ℕ) : Type 0 where
 pub jumped : (s : State) (regs : List ℕ) (x : ℕ) → Registers regs → HoldsBelow 15 s regs → Moved s (set regs 15 x) x
 jumped s regs x hr h = record { holds = pc-holds s regs x h; pc = getD-set-same regs 15 x 0 (omega (arith, hr .count)) }
 
-pub on : (s : State) (regs : List ℕ) → Registers regs → HoldsBelow 15 s regs → Moved s (advanced regs) (wrap (getD regs 15 0 + 2))
+pub on : (s : State) (regs : List ℕ) → Registers regs → HoldsBelow 15 s regs
+    → Moved s (advanced regs) (wrap (getD regs 15 0 + 2))
 on s regs hr h = jumped s regs (wrap (getD regs 15 0 + 2)) hr h
 
-pub wrote : (s : State) (regs : List ℕ) (d x : ℕ) (v : Value) → d < 15 → length s ≡ 16 → Registers regs → HoldsBelow 15 s regs → Holds v x
-    → Moved (set s d v) (written regs d x) (wrap (getD regs 15 0 + 2))
+pub wrote : (s : State) (regs : List ℕ) (d x : ℕ) (v : Value) → d < 15 → length s ≡ 16 → Registers regs
+    → HoldsBelow 15 s regs → Holds v x → Moved (set s d v) (written regs d x) (wrap (getD regs 15 0 + 2))
 wrote s regs d x v hd hs hr h hv =
     let m = on s regs hr h in
     let q : 15 ≡ d → ⊥ = omega arith in
+    let long : length (advanced regs) ≡ 16 = length-set regs 15 _ ∙ hr .count in
     record {
-      holds = set-holds 15 s (advanced regs) d x v (omega arith) hs (length-set regs 15 (wrap (getD regs 15 0 + 2)) ∙ hr .count) (m .holds) hv;
+      holds = set-holds 15 s (advanced regs) d x v (omega arith) hs long (m .holds) hv;
       pc = getD-set-other (advanced regs) d 15 x 0 q ∙ m .pc;
     }
 
 -- ---- arriving at an instruction
 
 pub unknown-holds : (n : ℕ) (regs : List ℕ) → n ≤ 16 → Registers regs → HoldsBelow n unknownState regs
-unknown-holds n regs hn hr r hl = rw (getD-replicate 16 r unknownOf unknownOf (omega arith)) (unknown-sound (getD regs r 0) (hr .below r))
+unknown-holds n regs hn hr r hl =
+    rw (getD-replicate 16 r unknownOf unknownOf (omega arith)) (unknown-sound (getD regs r 0) (hr .below r))
 
-forget-holds : (t : Bool) (s : State) (regs : List ℕ) → Registers regs → (t ≡ false → HoldsBelow 15 s regs) → HoldsBelow 15 (cond t unknownState s) regs
+forget-holds : (t : Bool) (s : State) (regs : List ℕ) → Registers regs
+    → (t ≡ false → HoldsBelow 15 s regs) → HoldsBelow 15 (cond t unknownState s) regs
 forget-holds true s regs hr h = unknown-holds 15 regs (omega arith) hr
 forget-holds false s regs hr h = h refl
 
@@ -71,10 +75,17 @@ forget-long true s h = refl
 forget-long false s h = h
 
 -- the address is known: R15 holds it
-pub standing-holds : (a : ByteAddress) (t : Bool) (s : State) (regs : List ℕ) → a .0 < 65536 → getD regs 15 0 ≡ a .0 → length s ≡ 16 → Registers regs
+pub standing-holds : (a : ByteAddress) (t : Bool) (s : State) (regs : List ℕ)
+    → a .0 < 65536 → getD regs 15 0 ≡ a .0 → length s ≡ 16 → Registers regs
     → (t ≡ false → HoldsBelow 15 s regs) → HoldsBelow 16 (standingAt a (cond t unknownState s)) regs
 standing-holds a t s regs ha e hs hr h r hl = go (ℕ-discrete r 15)
   where
-    go : Dec (r ≡ 15) → Holds (value (standingAt a (cond t unknownState s)) r) (getD regs r 0)
-    go (yes q) = rw (q, getD-set-same (cond t unknownState s) 15 (exactlyOf (a .0)) unknownOf (omega (arith, forget-long t s hs)), e) (exactly-sound (a .0) ha)
-    go (no q) = rw (getD-set-other (cond t unknownState s) 15 r (exactlyOf (a .0)) unknownOf q) (forget-holds t s regs hr h r (omega arith))
+    came : State
+    came = cond t unknownState s
+
+    go : Dec (r ≡ 15) → Holds (value (standingAt a came) r) (getD regs r 0)
+    go (yes q) =
+        let long : 15 < length came = omega (arith, forget-long t s hs) in
+        rw (q, getD-set-same came 15 (exactlyOf (a .0)) unknownOf long, e) (exactly-sound (a .0) ha)
+    go (no q) =
+        rw (getD-set-other came 15 r (exactlyOf (a .0)) unknownOf q) (forget-holds t s regs hr h r (omega arith))

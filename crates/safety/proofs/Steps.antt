@@ -13,10 +13,14 @@ use lib.Pow.{shr-le}
 use Rattle.units.specs.Address.{wrap, branchTargetOf, pcSum}
 use Rattle.units.specs.declared.address.ByteAddress.{ByteAddress}
 use Rattle.isa.specs.declared.instruction.Instruction.{Instruction}
-use Rattle.isa.specs.declared.instruction.Instruction.the-variants.{MovImm, CmpImm, And, Eor, Asr, Tst, Neg, Cmp, AddHigh, CmpHigh, MovHigh, Str, Ldr, Strb, Ldrb, AddPc, Branch, Halt}
+use Rattle.isa.specs.declared.instruction.Instruction.the-variants.{MovImm, CmpImm, And, Eor, Asr, Tst, Neg, Cmp}
+use Rattle.isa.specs.declared.instruction.Instruction.the-variants.{AddHigh, CmpHigh, MovHigh, Str, Ldr, Strb, Ldrb}
+use Rattle.isa.specs.declared.instruction.Instruction.the-variants.{AddPc, Branch, Halt}
 use Rattle.domain.specs.declared.value.Value.{Value}
+use Rattle.domain.specs.Value as domain
 use Rattle.domain_laws.specs.Holds.{Holds}
-use Rattle.domain_laws.proofs.Sound.{unknown-sound, exactly-sound, byte-sound, neg-sound, asr-sound, add-sound, and-sound, eor-sound}
+use Rattle.domain_laws.proofs.Sound.{unknown-sound, exactly-sound, byte-sound, neg-sound, asr-sound, add-sound}
+use Rattle.domain_laws.proofs.Sound.{and-sound, eor-sound}
 use Rattle.targets.specs.Jumps.{jumpOf}
 use Rattle.targets.specs.declared.branch.Target.the-variants.{To}
 use Rattle.isa.specs.Access.{accessOf}
@@ -27,7 +31,9 @@ use Rattle.cpu.specs.declared.outcome.Outcome.the-variants.{Completed}
 use Rattle.alu.specs.Flags.{Flags}
 use Rattle.cpu.specs.Machine.{reg, pc, flags, updated, advanced, written}
 use Rattle.alu.specs.Alu.{negative, shiftOf, conditionOf}
-use Rattle.cpu.specs.Step.{StepResult, completed, effectiveAddress, executeOf, addHighOf, addPcOf, andOf, asrOf, branchOf, cmpImmOf, cmpOf, cmpHighOf, eorOf, ldrOf, ldrbOf, movImmOf, movHighOf, negOf, strOf, strbOf, tstOf}
+use Rattle.cpu.specs.Step.{StepResult, completed, effectiveAddress, executeOf, addHighOf, addPcOf, andOf, asrOf}
+use Rattle.cpu.specs.Step.{branchOf, cmpImmOf, cmpOf, cmpHighOf, eorOf, ldrOf, ldrbOf, movImmOf, movHighOf, negOf}
+use Rattle.cpu.specs.Step.{strOf, strbOf, tstOf}
 use Rattle.cpu_laws.specs.Sizes.{Registers, Bytes}
 use Rattle.cpu.specs.Traffic.{dataAddress}
 use Rattle.cpu_laws.proofs.Sizes.{shift-small, halfword-small}
@@ -51,27 +57,48 @@ shift-less a k h =
 abbrev pub IsHalt : Instruction → Type 0
 IsHalt i = (note : ℕ) × (i ≡ Halt note)
 
--- a completed step: the values move on as the transfer says, to the next instruction or to where it jumps
+-- where a machine stands
+abbrev pub here : Machine → ByteAddress
+here m = record { 0 = pc m }
+
+-- the values move on as the transfer says, and the PC goes there
+abbrev pub MovedTo : State → Instruction → Machine → StepResult → ℕ → Type 0
+MovedTo s i m r to = Moved (transferOf (here m) i s) (r .state .machine .regs) to
+
+-- so does a branch, to where it jumps
+pub record Branched (s : State) (i : Instruction) (m : Machine) (r : StepResult) : Type 0 where
+  pub target : ByteAddress
+  pub jumps : jumpOf (here m) i ≡ To target
+  pub even : pc m % 2 ≡ 0 → target .0 % 2 ≡ 0
+  pub moved : MovedTo s i m r (target .0)
+
+-- a completed step leads to the next instruction, or to where it jumps
 pub record Completes (s : State) (i : Instruction) (m : Machine) (r : StepResult) : Type 0 where
   pub outcome : r .outcome ≡ Completed
-  pub moved : Moved (transferOf (record { 0 = pc m }) i s) (r .state .machine .regs) (wrap (pc m + 2))
-      ⊎ ((t : ByteAddress) × (jumpOf (record { 0 = pc m }) i ≡ To t) × (pc m % 2 ≡ 0 → t .0 % 2 ≡ 0) × Moved (transferOf (record { 0 = pc m }) i s) (r .state .machine .regs) (t .0))
+  pub moved : MovedTo s i m r (wrap (pc m + 2)) ⊎ Branched s i m r
 
-module _ (s : State) (m : Machine) (memory : List ℕ) (long : length s ≡ 16) (sized : Registers (m .regs)) (holds : HoldsBelow 16 s (m .regs)) (bytes : Bytes memory) where
+module _ (s : State) (m : Machine) (memory : List ℕ) (long : length s ≡ 16)
+    (sized : Registers (m .regs)) (holds : HoldsBelow 16 s (m .regs)) (bytes : Bytes memory) where
   below : HoldsBelow 15 s (m .regs)
   below r h = holds r (omega arith)
 
   at : (r : ℕ) → r < 16 → Holds (value s r) (reg m r)
   at r h = holds r h
 
+  -- every instruction but HALT completes
+  abbrev Leads : Instruction → StepResult → Type 0
+  Leads i r = IsHalt i ⊎ Completes s i m r
+
   -- an instruction that writes x, of which v holds, into Rd
-  writes : (i : Instruction) (rd x : ℕ) (v : Value) (f : Flags) → rd < 15 → Holds v x → transferOf (record { 0 = pc m }) i s ≡ set s rd v
-      → Completes s i m (completed (updated m (written (m .regs) rd x) f) memory)
-  writes i rd x v f hd hv e = record { outcome = refl; moved = inl (rw e (wrote s (m .regs) rd x v hd long sized below hv)) }
+  writes : {i : Instruction} (rd x : ℕ) (v : Value) (f : Flags) → rd < 15 → Holds v x
+      → transferOf (here m) i s ≡ set s rd v → Leads i (completed (updated m (written (m .regs) rd x) f) memory)
+  writes rd x v f hd hv e =
+      inr (record { outcome = refl; moved = inl (rw e (wrote s (m .regs) rd x v hd long sized below hv)) })
 
   -- one that writes no register
-  passes : (i : Instruction) (f : Flags) (after : List ℕ) → transferOf (record { 0 = pc m }) i s ≡ s → Completes s i m (completed (updated m (advanced (m .regs)) f) after)
-  passes i f after e = record { outcome = refl; moved = inl (rw e (on s (m .regs) sized below)) }
+  passes : {i : Instruction} (f : Flags) (after : List ℕ) → transferOf (here m) i s ≡ s
+      → Leads i (completed (updated m (advanced (m .regs)) f) after)
+  passes f after e = inr (record { outcome = refl; moved = inl (rw e (on s (m .regs) sized below)) })
 
   -- a load or store of a halfword is aligned
   aligned-then : {A : Type 0} (a : ℕ) (x y : A) → a % 4 ≡ 0 → cond (eqb (a % 4) 0) x y ≡ x
@@ -79,6 +106,12 @@ module _ (s : State) (m : Machine) (memory : List ℕ) (long : length s ≡ 16) 
 
   not-pc : (rd : ℕ) → rd < 16 → not (eqb rd 15) ≡ true → rd < 15
   not-pc rd h e = let n : rd ≡ 15 → ⊥ = eqb-false rd 15 (not-true (eqb rd 15) e) in omega arith
+
+  -- a shift leaves 16 bits, and no more than it shifts where that is not negative
+  shifts : (rd k : ℕ) → rd < 16 → Holds (domain.asrOf (value s rd)) (shiftOf (reg m rd) k)
+  shifts rd k h =
+      asr-sound _ (reg m rd) _ (at rd h) (shift-less (reg m rd) k)
+      (le-of-suc-le-suc (shift-small (reg m rd) k (sized .below rd)))
 
   -- a branch from an even address goes to an even one
   target-even : (a offset : ℕ) → a % 2 ≡ 0 → branchTargetOf (record { 0 = a }) offset .0 % 2 ≡ 0
@@ -88,34 +121,51 @@ module _ (s : State) (m : Machine) (memory : List ℕ) (long : length s ≡ 16) 
       go true = omega arith
       go false = omega arith
 
-  branch-case : (condition offset : ℕ) (t : Bool)
-      → Completes s (Branch condition offset) m (completed (updated m (cond t (set (m .regs) 15 (branchTargetOf (record { 0 = pc m }) offset .0)) (advanced (m .regs))) (flags m)) memory)
-  branch-case condition offset true =
-      record { outcome = refl; moved = inr (branchTargetOf (record { 0 = pc m }) offset, refl, target-even (pc m) offset, jumped s (m .regs) _ sized below) }
-  branch-case condition offset false = passes (Branch condition offset) (flags m) memory refl
+  -- the registers after a branch that is taken or not
+  abbrev after-branch : ℕ → Bool → List ℕ
+  after-branch offset t = cond t (set (m .regs) 15 (branchTargetOf (here m) offset .0)) (advanced (m .regs))
 
-  -- every instruction but HALT, where check 12 has passed and its data are aligned
-  pub step-case : (i : Instruction) → Narrow i → check12 i ≡ true → (accessOf i .size ≡ 2 → dataAddress m (accessOf i) % 4 ≡ 0)
-      → IsHalt i ⊎ Completes s i m (executeOf i m memory)
-  unfolding executeOf movImmOf cmpImmOf andOf eorOf asrOf tstOf negOf cmpOf addHighOf cmpHighOf movHighOf strOf ldrOf strbOf ldrbOf addPcOf branchOf
-  step-case (MovImm rd imm) h k a = inr (writes (MovImm rd imm) rd imm _ _ (omega (arith, h .0)) (exactly-sound imm (omega (arith, h .1))) refl)
-  step-case (CmpImm rd imm) h k a = inr (passes (CmpImm rd imm) _ memory refl)
-  step-case (And rs rd) h k a = inr (writes (And rs rd) rd _ _ _ (omega (arith, h .1)) (and-sound _ _ _ _ (at rd (omega (arith, h .1))) (at rs (omega (arith, h .0)))) refl)
-  step-case (Eor rs rd) h k a = inr (writes (Eor rs rd) rd _ _ _ (omega (arith, h .1)) (eor-sound _ _ _ _ (at rd (omega (arith, h .1))) (at rs (omega (arith, h .0)))) refl)
-  step-case (Asr rs rd) h k a =
-      inr (writes (Asr rs rd) rd _ _ _ (omega (arith, h .1))
-      (asr-sound _ (reg m rd) _ (at rd (omega (arith, h .1))) (shift-less (reg m rd) (reg m rs % 256)) (le-of-suc-le-suc (shift-small (reg m rd) (reg m rs % 256) (sized .below rd)))) refl)
-  step-case (Tst rs rd) h k a = inr (passes (Tst rs rd) _ memory refl)
-  step-case (Neg rs rd) h k a = inr (writes (Neg rs rd) rd _ _ _ (omega (arith, h .1)) (rw (zero-add (65536 - reg m rs)) (neg-sound _ _ (at rs (omega (arith, h .0))))) refl)
-  step-case (Cmp rs rd) h k a = inr (passes (Cmp rs rd) _ memory refl)
-  step-case (AddHigh rs rd) h k a = inr (writes (AddHigh rs rd) rd _ _ _ (not-pc rd (h .1) k) (add-sound _ _ _ _ (at rd (h .1)) (at rs (h .0))) refl)
-  step-case (CmpHigh rs rd) h k a = inr (passes (CmpHigh rs rd) _ memory refl)
-  step-case (MovHigh rs rd) h k a = inr (writes (MovHigh rs rd) rd _ _ _ (not-pc rd (h .1) k) (at rs (h .0)) refl)
-  step-case (Str offset rb rd) h k a = inr (rw (aligned-then (effectiveAddress m rb (4 * offset)) _ _ (a refl)) (passes (Str offset rb rd) _ _ refl))
+  branches : (condition offset : ℕ) (t : Bool)
+      → Leads (Branch condition offset) (completed (updated m (after-branch offset t) (flags m)) memory)
+  branches condition offset true =
+      let target : ByteAddress = branchTargetOf (here m) offset in
+      let even = target-even (pc m) offset in
+      let moved = jumped s (m .regs) (target .0) sized below in
+      inr (record {
+        outcome = refl;
+        moved = inr (record { target = target; jumps = refl; even = even; moved = moved });
+      })
+  branches condition offset false = passes (flags m) memory refl
+
+  -- where check 12 has passed and the data are aligned
+  pub step-case : (i : Instruction) → Narrow i → check12 i ≡ true
+      → (accessOf i .size ≡ 2 → dataAddress m (accessOf i) % 4 ≡ 0) → IsHalt i ⊎ Completes s i m (executeOf i m memory)
+  unfolding executeOf movImmOf cmpImmOf andOf eorOf asrOf tstOf negOf cmpOf addHighOf cmpHighOf movHighOf strOf ldrOf
+      strbOf ldrbOf addPcOf branchOf
+  step-case (MovImm rd imm) h k a = writes rd imm _ _ (omega arith) (exactly-sound imm (omega arith)) refl
+  step-case (CmpImm rd imm) h k a = passes _ memory refl
+  step-case (And rs rd) h k a =
+      writes rd _ _ _ (omega arith) (and-sound _ _ _ _ (at rd (omega arith)) (at rs (omega arith))) refl
+  step-case (Eor rs rd) h k a =
+      writes rd _ _ _ (omega arith) (eor-sound _ _ _ _ (at rd (omega arith)) (at rs (omega arith))) refl
+  step-case (Asr rs rd) h k a = writes rd _ _ _ (omega arith) (shifts rd (reg m rs % 256) (omega arith)) refl
+  step-case (Tst rs rd) h k a = passes _ memory refl
+  step-case (Neg rs rd) h k a =
+      writes rd _ _ _ (omega arith) (rw (zero-add (65536 - reg m rs)) (neg-sound _ _ (at rs (omega arith)))) refl
+  step-case (Cmp rs rd) h k a = passes _ memory refl
+  step-case (AddHigh rs rd) h k a =
+      writes rd _ _ _ (not-pc rd (h .1) k) (add-sound _ _ _ _ (at rd (h .1)) (at rs (h .0))) refl
+  step-case (CmpHigh rs rd) h k a = passes _ memory refl
+  step-case (MovHigh rs rd) h k a = writes rd _ _ _ (not-pc rd (h .1) k) (at rs (h .0)) refl
+  step-case (Str offset rb rd) h k a =
+      rw (aligned-then (effectiveAddress m rb (4 * offset)) _ _ (a refl)) (passes _ _ refl)
   step-case (Ldr offset rb rd) h k a =
-      inr (rw (aligned-then (effectiveAddress m rb (4 * offset)) _ _ (a refl)) (writes (Ldr offset rb rd) rd _ _ _ (omega (arith, h .2)) (unknown-sound _ (halfword-small memory _ bytes)) refl))
-  step-case (Strb offset rb rd) h k a = inr (passes (Strb offset rb rd) _ _ refl)
-  step-case (Ldrb offset rb rd) h k a = inr (writes (Ldrb offset rb rd) rd _ _ _ (omega (arith, h .2)) (byte-sound _ (bytes .below _)) refl)
-  step-case (AddPc rd imm) h k a = inr (writes (AddPc rd imm) rd (pcSum (record { 0 = pc m }) imm) _ _ (omega (arith, h .0)) (exactly-sound (pcSum (record { 0 = pc m }) imm) (omega arith)) refl)
-  step-case (Branch condition offset) h k a = inr (branch-case condition offset (conditionOf condition (flags m)))
+      rw (aligned-then (effectiveAddress m rb (4 * offset)) _ _ (a refl))
+      (writes rd _ _ _ (omega arith) (unknown-sound _ (halfword-small memory _ bytes)) refl)
+  step-case (Strb offset rb rd) h k a = passes _ _ refl
+  step-case (Ldrb offset rb rd) h k a = writes rd _ _ _ (omega arith) (byte-sound _ (bytes .below _)) refl
+  step-case (AddPc rd imm) h k a =
+      let sum = pcSum (here m) imm in
+      writes rd sum _ _ (omega arith) (exactly-sound sum (omega arith)) refl
+  step-case (Branch condition offset) h k a = branches condition offset (conditionOf condition (flags m))
   step-case (Halt note) h k a = inl (note, refl)

@@ -46,8 +46,9 @@ pub record SafeTraffic (layout : Layout) (t : Traffic) : Type 0 where
   pub inside : 0 < bytesTouched t → InWindow layout (addressTouched t) (bytesTouched t)
   pub aligned : bytesTouched t ≡ 2 → addressTouched t % 4 ≡ 0
 
--- a state of the run: its instruction is fetched from the code and defined, no stop comes next, so that a load or store there tells its data, and those are
--- in the window; memory has all its bytes, and each outside the window is as it was at the start
+-- a state of the run: its instruction is fetched from the code and defined, no stop comes next, so that a load or
+-- store there tells its data, and those are in the window; memory has all its bytes, and each outside the window is
+-- as it was at the start
 pub record SafeState (layout : Layout) (memory : List ℕ) (s : State) : Type 0 where
   pub even : pc (s .machine) % 2 ≡ 0
   pub fetch : pc (s .machine) + 2 ≤ layout .«code_bytes»
@@ -80,17 +81,20 @@ pub record EndsSpent (budget : ℕ) (r : RunResult) : Type 0 where
   pub outcome : r .outcome ≡ run.Spent
   pub all : r .count ≡ budget
 
--- a whole run: each state is safe, from the start to the last, and each but the last completes its step; the run leaves the last as it is, but for the
--- note if it ends by HALT; it ends by HALT or spent; the data that it tells of are in the window; and nothing outside code and window has a part in it,
--- nor in what it tells
+-- a whole run: each state is safe, from the start to the last, and each but the last completes its step; the run
+-- leaves the last as it is, but for the note if it ends by HALT; it ends by HALT or spent; the data that it tells of
+-- are in the window; and nothing outside code and window has a part in it, nor in what it tells
 pub record SafeRun (file : List ℕ) (layout : Layout) (m : Machine) (memory : List ℕ) (budget : ℕ) : Type 0 where
   pub states : (k : ℕ) → k ≤ runOf budget m memory .count → SafeState layout memory (stateAfter k (state m memory))
-  pub completed : (k : ℕ) → k < runOf budget m memory .count → outcomeAt (stateAfter k (state m memory)) ≡ step.Completed
-  pub last : runOf budget m memory .state ≡ finalState (runOf budget m memory .outcome) (stateAfter (runOf budget m memory .count) (state m memory))
+  pub completed : (k : ℕ) → k < runOf budget m memory .count
+      → outcomeAt (stateAfter k (state m memory)) ≡ step.Completed
+  pub last : runOf budget m memory .state
+      ≡ finalState (runOf budget m memory .outcome) (stateAfter (runOf budget m memory .count) (state m memory))
   pub ends : EndsByHalt budget (runOf budget m memory) ⊎ EndsSpent budget (runOf budget m memory)
   pub traffic : SafeTraffic layout (runTraffic budget m memory)
   pub alike : (other : List ℕ) → HoldsCode file layout other → SameWindow layout memory other
-      → SameResult layout (runOf budget m memory) (runOf budget m other) × (runTraffic budget m memory ≡ runTraffic budget m other)
+      → SameResult layout (runOf budget m memory) (runOf budget m other)
+      × (runTraffic budget m memory ≡ runTraffic budget m other)
 
 -- demand 3, over every file, memory, start and budget
 abbrev pub Demand3 : Type 0
@@ -100,7 +104,8 @@ Demand3 =
     → (m : Machine) → Start m
     → (budget : ℕ) → SafeRun file layout m memory budget
 
--- what a load leaves, if it isn't refused, is a memory that holds the code of a fit file: so a load and then a run is covered
+-- what a load leaves, if it isn't refused, is a memory that holds the code of a fit file: so a load and then a run is
+-- covered
 abbrev pub LoadHolds : Type 0
 LoadHolds =
     (file memory : List ℕ) → ((a : ℕ) → byteAt file a < 256) → ((a : ℕ) → byteAt memory a < 256)

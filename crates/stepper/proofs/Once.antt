@@ -23,13 +23,18 @@ use Rattle.stepper.specs.Ends.{asStep}
 abbrev asStepResult : RunResult → StepResult
 asStepResult r = stepResult (r .state .machine) (r .state .memory) (asStep (r .outcome))
 
-after-one : (o : Outcome) (s : State) → asStepResult (goOn o s 0 (record { state = s; outcome = Spent; count = 1 })) ≡ record { state = s; outcome = o }
+-- the run goes on for no more steps
+abbrev spent : State → RunResult
+spent s = record { state = s; outcome = Spent; count = 1 }
+
+after-one : (o : Outcome) (s : State) → asStepResult (goOn o s 0 (spent s)) ≡ record { state = s; outcome = o }
 after-one Completed s = refl
 after-one Halted s = refl
 after-one (Stopped number) s = refl
 after-one (Refused r) s = refl
 
-wrong : (m : Machine) (memory : List ℕ) → eqb (length memory) memoryBytes ≡ false → stepResult m memory (Refused (refusal 1)) ≡ stepOf m memory
+wrong : (m : Machine) (memory : List ℕ) → eqb (length memory) memoryBytes ≡ false
+    → stepResult m memory (Refused (refusal 1)) ≡ stepOf m memory
 unfolding stepOf
 wrong m memory e = simp e
 
@@ -53,17 +58,20 @@ one-told m memory = go (eqb (length memory) memoryBytes) refl
     t : Traffic
     t = decodedTraffic (fetched m memory) m
 
-    told : (o : Outcome) → o ≡ stepOf m memory .outcome
-        → lastTraffic (goOn o (stepOf m memory .state) 0 (record { state = stepOf m memory .state; outcome = Spent; count = 1 }) .count) (state m memory)
-        ≡ whenCompleted (stepOf m memory .outcome) t
+    r : StepResult
+    r = stepOf m memory
+
+    told : (o : Outcome) → o ≡ r .outcome
+        → lastTraffic (goOn o (r .state) 0 (spent (r .state)) .count) (state m memory) ≡ whenCompleted (r .outcome) t
     told Completed e = refl
     told Halted e = ap (λ (o : Outcome). whenCompleted o t) e
     told (Stopped number) e = ap (λ (o : Outcome). whenCompleted o t) e
-    told (Refused r) e = ap (λ (o : Outcome). whenCompleted o t) e
+    told (Refused q) e = ap (λ (o : Outcome). whenCompleted o t) e
 
-    go : (b : Bool) → eqb (length memory) memoryBytes ≡ b → lastTraffic (runOf 1 m memory .count) (state m memory) ≡ whenCompleted (stepOf m memory .outcome) t
-    go true e = simp e (told (stepOf m memory .outcome) refl)
-    go false e = simp e (ap (λ (r : StepResult). whenCompleted (r .outcome) t) (wrong m memory e))
+    go : (b : Bool) → eqb (length memory) memoryBytes ≡ b
+        → lastTraffic (runOf 1 m memory .count) (state m memory) ≡ whenCompleted (r .outcome) t
+    go true e = simp e (told (r .outcome) refl)
+    go false e = simp e (ap (λ (q : StepResult). whenCompleted (q .outcome) t) (wrong m memory e))
 
 pub step-told : (m : Machine) (memory : List ℕ) (t : Traffic) → t ≡ runTraffic 1 m memory → t ≡ stepTraffic m memory
 step-told m memory t ran = ran ∙ one-told m memory

@@ -14,7 +14,8 @@ module _ (h : ℕ → ℕ) where
   down-plain n (suc k) = let rest = down-plain (suc n) k in omega arith
 
   -- one call more, for the halfword before halfword j, where the first call was for halfword end - 1
-  pub down-next : (j end : ℕ) → 0 < j → j ≤ end → addedTo (sumDownTo h j (end - j)) (h (j - 1)) ≡ sumDownTo h (j - 1) (end - (j - 1))
+  pub down-next : (j end : ℕ) → 0 < j → j ≤ end
+      → addedTo (sumDownTo h j (end - j)) (h (j - 1)) ≡ sumDownTo h (j - 1) (end - (j - 1))
   unfolding sumDownTo
   down-next j end some fits =
       let calls : end - (j - 1) ≡ suc (end - j) = omega arith in

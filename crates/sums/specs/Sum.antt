@@ -1,4 +1,5 @@
--- Sums of halfwords ("Image blocks", the sum; Change 3): one call, calls from the front and from the back, and the plain sum.
+-- Sums of halfwords ("Image blocks", the sum; Change 3): one call, calls from the front and from the back,
+-- and the plain sum.
 use Prim.Native.Nat.{ℕ, zero, suc, _+_}
 use Rattle.units.specs.Address.{wrap}
 

@@ -51,21 +51,28 @@ NoInstruction h = (decodeOf h ≡ Undefined) × Does h (stopped 19)
 abbrev pub codeP : ℕ → List ℕ
 codeP first = first ∷ 0x4008 ∷ 0x2280 ∷ 0x4412 ∷ 0x4410 ∷ 0x6001 ∷ 0x0000 ∷ []
 
--- the instructions' rows hold with any flags and any note before, and the note stays: NEG R0, R1 is 0x4108, CMP R0, #1 is 0x2801, ADD R0, R1 is
--- 0x4408, ASR R0, R1 is 0x4088
+-- the instructions' rows hold with any flags and any note before, and the note stays: NEG R0, R1 is 0x4108, CMP R0,
+-- #1 is 0x2801, ADD R0, R1 is 0x4408, ASR R0, R1 is 0x4088
 pub record StarredRows : Type 0 where
   pub row-0000 : HaltsWith 0x0000 0
   pub row-0001 : HaltsWith 0x0001 1
   pub row-4500 : NoInstruction 0x4500
   pub row-4540 : decodeOf 0x4540 ≡ Defined (CmpHigh 8 0)
   pub row-DE00 : NoInstruction 0xDE00
-  pub neg-8000 : (f : Flags) (note : ℕ) → Gives 0x4108 (machineWith 0 0x8000 0 f note) (machineWith 0x8000 0x8000 2 (nzcv true false false true) note)
-  pub neg-0 : (f : Flags) (note : ℕ) → Gives 0x4108 (machineWith 5 0 0 f note) (machineWith 0 0 2 (nzcv false true true false) note)
-  pub cmp-8000-1 : (f : Flags) (note : ℕ) → Gives 0x2801 (machineWith 0x8000 0 0 f note) (machineWith 0x8000 0 2 (nzcv false false true true) note)
-  pub add-FFFF-1 : (f : Flags) (note : ℕ) → Gives 0x4408 (machineWith 0xFFFF 1 0 f note) (machineWith 0 1 2 (nzcv false true true false) note)
-  pub asr-by-16 : (f : Flags) (note : ℕ) → Gives 0x4088 (machineWith 0x8000 16 0 f note) (machineWith 0xFFFF 16 2 (nzcv true false true (f .v)) note)
-  pub asr-by-0100 : (f : Flags) (note : ℕ) → Gives 0x4088 (machineWith 0x8000 0x0100 0 f note) (machineWith 0x8000 0x0100 2 (nzcv true false (f .c) (f .v)) note)
+  pub neg-8000 : (f : Flags) (note : ℕ) → Gives 0x4108 (machineWith 0 0x8000 0 f note)
+      (machineWith 0x8000 0x8000 2 (nzcv true false false true) note)
+  pub neg-0 : (f : Flags) (note : ℕ) → Gives 0x4108 (machineWith 5 0 0 f note)
+      (machineWith 0 0 2 (nzcv false true true false) note)
+  pub cmp-8000-1 : (f : Flags) (note : ℕ) → Gives 0x2801 (machineWith 0x8000 0 0 f note)
+      (machineWith 0x8000 0 2 (nzcv false false true true) note)
+  pub add-FFFF-1 : (f : Flags) (note : ℕ) → Gives 0x4408 (machineWith 0xFFFF 1 0 f note)
+      (machineWith 0 1 2 (nzcv false true true false) note)
+  pub asr-by-16 : (f : Flags) (note : ℕ) → Gives 0x4088 (machineWith 0x8000 16 0 f note)
+      (machineWith 0xFFFF 16 2 (nzcv true false true (f .v)) note)
+  pub asr-by-0100 : (f : Flags) (note : ℕ) → Gives 0x4088 (machineWith 0x8000 0x0100 0 f note)
+      (machineWith 0x8000 0x0100 2 (nzcv true false (f .c) (f .v)) note)
   pub row-A001 : (f : Flags) (note : ℕ) → Gives 0xA001 (machineWith 0 0 6 f note) (machineWith 8 0 8 f note)
-  pub p-256 : verifyOf (imageOf (codeP 0x21FC) 256 256) ≡ Fit (record { «code_bytes» = 14; «window_start» = 256; «window_length» = 256 })
+  pub p-256 : verifyOf (imageOf (codeP 0x21FC) 256 256)
+      ≡ Fit (record { «code_bytes» = 14; «window_start» = 256; «window_length» = 256 })
   pub p-252 : verifyOf (imageOf (codeP 0x21FC) 256 252) ≡ Refused (refusalAt 10 (record { 0 = 10 }))
   pub p-21FD : verifyOf (imageOf (codeP 0x21FD) 256 256) ≡ Refused (refusalAt 11 (record { 0 = 10 }))

@@ -55,16 +55,21 @@ or-digit (suc (suc x)) h = absurd (omega arith)
 
 bit-set : (w a b : ℕ) (t : Bool) → eqb a b ≡ t → eqb (bitOr w (2 ^ a) / 2 ^ b % 2) 1 ≡ (t || eqb (w / 2 ^ b % 2) 1)
 bit-set w a b true q =
-    ap (λ (y : ℕ). eqb y 1) (or-bit w a b ∙ ap (λ (y : ℕ). bitOr (w / 2 ^ b % 2) (2 ^ a / 2 ^ y % 2)) (sym (eqb-true a b q)) ∙ ap (bitOr (w / 2 ^ b % 2)) (bit-same a))
+    ap (λ (y : ℕ). eqb y 1)
+    (or-bit w a b
+    ∙ ap (λ (y : ℕ). bitOr (w / 2 ^ b % 2) (2 ^ a / 2 ^ y % 2)) (sym (eqb-true a b q))
+    ∙ ap (bitOr (w / 2 ^ b % 2)) (bit-same a))
     ∙ or-digit (w / 2 ^ b % 2) (omega arith)
 bit-set w a b false q =
-    ap (λ (y : ℕ). eqb y 1) (or-bit w a b ∙ ap (bitOr (w / 2 ^ b % 2)) (bit-other a b (eqb-false a b q)) ∙ or-zero-r (w / 2 ^ b % 2))
+    ap (λ (y : ℕ). eqb y 1)
+    (or-bit w a b ∙ ap (bitOr (w / 2 ^ b % 2)) (bit-other a b (eqb-false a b q)) ∙ or-zero-r (w / 2 ^ b % 2))
 
 -- the words with bit i set
 abbrev pub setMark : List ℕ → ℕ → List ℕ
 setMark marks i = set marks (i / 64) (bitOr (getD marks (i / 64) 0) (2 ^ (i % 64)))
 
-pub marked-set : (marks : List ℕ) (i j : ℕ) → i / 64 < length marks → markedAt (setMark marks i) j ≡ (eqb i j || markedAt marks j)
+pub marked-set : (marks : List ℕ) (i j : ℕ) → i / 64 < length marks
+    → markedAt (setMark marks i) j ≡ (eqb i j || markedAt marks j)
 marked-set marks i j h = word (eqb (j / 64) (i / 64)) refl
   where
     word : (t : Bool) → eqb (j / 64) (i / 64) ≡ t → markedAt (setMark marks i) j ≡ (eqb i j || markedAt marks j)
@@ -72,11 +77,13 @@ marked-set marks i j h = word (eqb (j / 64) (i / 64)) refl
         let q : j / 64 ≡ i / 64 = eqb-true _ _ e in
         ap (λ (k : ℕ). eqb (getD (setMark marks i) k 0 / 2 ^ (j % 64) % 2) 1) q
         ∙ ap (λ (w : ℕ). eqb (w / 2 ^ (j % 64) % 2) 1) (getD-set-same marks (i / 64) _ 0 h)
-        ∙ bit-set (getD marks (i / 64) 0) (i % 64) (j % 64) (eqb i j) (eqb-iff (i % 64) (j % 64) i j (λ p. omega arith) (λ p. omega arith))
+        ∙ bit-set (getD marks (i / 64) 0) (i % 64) (j % 64) (eqb i j)
+        (eqb-iff (i % 64) (j % 64) i j (λ p. omega arith) (λ p. omega arith))
         ∙ ap (λ (k : ℕ). eqb i j || eqb (getD marks k 0 / 2 ^ (j % 64) % 2) 1) (sym q)
     word false e =
         ap (λ (w : ℕ). eqb (w / 2 ^ (j % 64) % 2) 1) (getD-set-other marks (i / 64) (j / 64) _ 0 (eqb-false _ _ e))
-        ∙ ap (λ (t : Bool). t || markedAt marks j) (sym (ne-eqb i j (λ p. eqb-false _ _ e (ap (λ (k : ℕ). k / 64) (sym p)))))
+        ∙ ap (λ (t : Bool). t || markedAt marks j)
+        (sym (ne-eqb i j (λ p. eqb-false _ _ e (ap (λ (k : ℕ). k / 64) (sym p)))))
 
 -- no bit of the first words is set
 pub none-marked : (j : ℕ) → markedAt (replicate markWords 0) j ≡ false
@@ -87,4 +94,6 @@ none-marked j = go (decLt (j / 64) markWords)
 
     go : Dec (j / 64 < markWords) → markedAt (replicate markWords 0) j ≡ false
     go (yes h) = ap (λ (w : ℕ). eqb (w / 2 ^ (j % 64) % 2) 1) (getD-replicate markWords (j / 64) 0 0 h) ∙ zero-word
-    go (no h) = ap (λ (w : ℕ). eqb (w / 2 ^ (j % 64) % 2) 1) (List·getD-eq-default (replicate markWords 0) 0 {n = j / 64} (omega arith)) ∙ zero-word
+    go (no h) =
+        ap (λ (w : ℕ). eqb (w / 2 ^ (j % 64) % 2) 1)
+        (List·getD-eq-default (replicate markWords 0) 0 {n = j / 64} (omega arith)) ∙ zero-word

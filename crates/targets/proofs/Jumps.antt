@@ -8,7 +8,8 @@ use borrow.Author.Tests.{eqb-true, ltb-true, lt-ltb}
 use lib.Dec.{eqb, ltb}
 use Rattle.units.specs.Field.{field, highRs, highRd}
 use Rattle.units.specs.declared.address.ByteAddress.{ByteAddress}
-use Rattle.isa.specs.Decode.{entry, only, immTable, aluTable, aluOf, highTable, highOf, registersTable, memoryTable, branchOf, table, decodeOf}
+use Rattle.isa.specs.Decode.{entry, only, immTable, aluTable, aluOf, highTable, highOf, registersTable, memoryTable}
+use Rattle.isa.specs.Decode.{branchOf, table, decodeOf}
 use Rattle.isa.specs.declared.decoder.Decoded.{Decoded}
 use Rattle.isa.specs.declared.decoder.Decoded.the-variants.{Defined}
 use Rattle.isa.specs.declared.instruction.Instruction.the-variants.{CmpHigh, AddPc, Branch, Halt}
@@ -16,7 +17,8 @@ use Rattle.isa.proofs.Table.{All, entry-keeps, only-keeps}
 use Rattle.targets.specs.Targets.{jumpAt}
 use Rattle.targets.specs.declared.branch.Target.the-variants.{Nowhere}
 
-pub is-branch : (h : ℕ) → 208 ≤ field h 8 8 → field h 8 8 ≤ 221 → decodeOf h ≡ Defined (Branch (field h 8 4) (field h 0 8))
+pub is-branch : (h : ℕ) → 208 ≤ field h 8 8 → field h 8 8 ≤ 221
+    → decodeOf h ≡ Defined (Branch (field h 8 4) (field h 0 8))
 is-branch h low high =
     let format : field h 13 3 ≡ 6 = omega arith in
     let form : field h 12 1 ≡ 1 = omega arith in
@@ -57,13 +59,15 @@ module _ (a : ByteAddress) where
 
     still-high : Still (highOf h)
     still-high =
-        still-entry (highTable h) (field h 8 2) (refl, (still-only (ltb 0 (field h 6 2)) (Defined (CmpHigh (highRs h) (highRd h))) refl, (refl, tt)))
+        still-entry (highTable h) (field h 8 2)
+        (refl, (still-only (ltb 0 (field h 6 2)) (Defined (CmpHigh (highRs h) (highRd h))) refl, (refl, tt)))
 
     -- a branch that the upper byte rules out
     still-branch : field h 13 3 ≡ 6 → ((208 ≤ field h 8 8) → (field h 8 8 ≤ 221) → ⊥) → Still (branchOf h)
     still-branch e out = go (eqb (field h 12 1) 1) (ltb (field h 8 4) 14) refl refl
       where
-        go : (t u : Bool) → eqb (field h 12 1) 1 ≡ t → ltb (field h 8 4) 14 ≡ u → Still (only t (only u (Defined (Branch (field h 8 4) (field h 0 8)))))
+        go : (t u : Bool) → eqb (field h 12 1) 1 ≡ t → ltb (field h 8 4) 14 ≡ u
+            → Still (only t (only u (Defined (Branch (field h 8 4) (field h 0 8)))))
         go true true p q =
             let form : field h 12 1 ≡ 1 = eqb-true _ _ p in
             let condition : field h 8 4 < 14 = ltb-true _ _ q in
@@ -74,13 +78,16 @@ module _ (a : ByteAddress) where
         go false u p q = refl
 
     -- the formats, by the top three bits
-    still-table : (n : ℕ) → n ≡ field h 13 3 → ((208 ≤ field h 8 8) → (field h 8 8 ≤ 221) → ⊥) → Still (entry (table h) n)
+    still-table : (n : ℕ) → n ≡ field h 13 3 → ((208 ≤ field h 8 8) → (field h 8 8 ≤ 221) → ⊥)
+        → Still (entry (table h) n)
     still-table zero e out = still-only (ltb h 256) (Defined (Halt (field h 0 8))) refl
     still-table (suc zero) e out = still-entry (immTable h) (field h 11 2) (refl, (refl, tt))
     still-table (suc (suc zero)) e out = still-entry (registersTable h) (field h 10 3) (still-alu, (still-high, tt))
-    still-table (suc (suc (suc zero))) e out = still-entry (memoryTable h) (field h 11 2) (refl, (refl, (refl, (refl, tt))))
+    still-table (suc (suc (suc zero))) e out =
+        still-entry (memoryTable h) (field h 11 2) (refl, (refl, (refl, (refl, tt))))
     still-table (suc (suc (suc (suc zero)))) e out = refl
-    still-table (suc (suc (suc (suc (suc zero))))) e out = still-only (eqb (field h 11 2) 0) (Defined (AddPc (field h 8 3) (field h 0 8))) refl
+    still-table (suc (suc (suc (suc (suc zero))))) e out =
+        still-only (eqb (field h 11 2) 0) (Defined (AddPc (field h 8 3) (field h 0 8))) refl
     still-table (suc (suc (suc (suc (suc (suc zero)))))) e out = still-branch (omega arith) out
     still-table (suc (suc (suc (suc (suc (suc (suc n))))))) e out = refl
 

@@ -2,7 +2,9 @@
 use Rattle.units.specs.Address.{branchTargetOf}
 use Rattle.units.specs.declared.address.ByteAddress.{ByteAddress}
 use Rattle.isa.specs.declared.instruction.Instruction.{Instruction}
-use Rattle.isa.specs.declared.instruction.Instruction.the-variants.{MovImm, CmpImm, And, Eor, Asr, Tst, Neg, Cmp, AddHigh, CmpHigh, MovHigh, Str, Ldr, Strb, Ldrb, AddPc, Branch, Halt}
+use Rattle.isa.specs.declared.instruction.Instruction.the-variants.{MovImm, CmpImm, And, Eor, Asr, Tst, Neg, Cmp}
+use Rattle.isa.specs.declared.instruction.Instruction.the-variants.{AddHigh, CmpHigh, MovHigh, Str, Ldr, Strb, Ldrb}
+use Rattle.isa.specs.declared.instruction.Instruction.the-variants.{AddPc, Branch, Halt}
 use Rattle.targets.specs.declared.branch.Target.{Target}
 use Rattle.targets.specs.declared.branch.Target.the-variants.{To, Nowhere}
 

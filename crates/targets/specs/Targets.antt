@@ -1,4 +1,5 @@
--- Branch targets ("Facts the judge carries": landing places). Instructions are counted from 0; the code is a list of halfwords.
+-- Branch targets ("Facts the judge carries": landing places). Instructions are counted from 0; the code is a
+-- list of halfwords.
 use mathlib.Core.Bool.{Bool, false, _||_}
 use mathlib.Core.List.{List}
 use Prim.Native.Nat.{ℕ, zero, suc, _/_, _%_, _^_}

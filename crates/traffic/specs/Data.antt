@@ -1,8 +1,10 @@
--- What a step touches in memory (Change 2), in the request's words: whether data are read or written, at which byte address, and how many bytes.
+-- What a step touches in memory (Change 2), in the request's words: whether data are read or written, at which byte
+-- address, and how many bytes.
 use mathlib.Core.Bool.{Bool, true, false}
 use Prim.Native.Nat.{ℕ}
 use Rattle.traffic.specs.declared.data.Traffic.{Traffic}
-use Rattle.traffic.specs.declared.data.Traffic.the-variants.{NoData, ReadByte, ReadHalfword, WroteByte, WroteHalfword}
+use Rattle.traffic.specs.declared.data.Traffic.the-variants.{NoData, ReadByte, ReadHalfword, WroteByte}
+use Rattle.traffic.specs.declared.data.Traffic.the-variants.{WroteHalfword}
 
 -- how many bytes are touched
 abbrev pub bytesTouched : Traffic → ℕ

@@ -1,5 +1,5 @@
--- The log that a run keeps while it lasts, two numbers: the step of its last load or store, and a word that says what that touched. Only the contracts of
--- functions that are no entry points speak of it.
+-- The log that a run keeps while it lasts, two numbers: the step of its last load or store, and a word that says what
+-- that touched. Only the contracts of functions that are no entry points speak of it.
 use mathlib.Core.Bool.{cond}
 use mathlib.Core.List.{List, [], _∷_}
 use Prim.Native.Nat.{ℕ, zero, suc, _+_, _*_, _/_, _%_}
@@ -7,7 +7,8 @@ use lib.Dec.{eqb}
 use lib.ListN.{getD, set}
 use Rattle.units.specs.declared.address.ByteAddress.{ByteAddress}
 use Rattle.traffic.specs.declared.data.Traffic.{Traffic}
-use Rattle.traffic.specs.declared.data.Traffic.the-variants.{NoData, ReadByte, ReadHalfword, WroteByte, WroteHalfword}
+use Rattle.traffic.specs.declared.data.Traffic.the-variants.{NoData, ReadByte, ReadHalfword, WroteByte}
+use Rattle.traffic.specs.declared.data.Traffic.the-variants.{WroteHalfword}
 use Rattle.traffic.specs.Data.{bytesTouched, addressTouched, kindTouched}
 
 -- what is touched as a word: its kind above the 16 bits of its address
@@ -17,7 +18,10 @@ trafficWord t = kindTouched t * 0x10000 + addressTouched t
 -- and back
 abbrev pub touchedAs : ℕ → ByteAddress → Traffic
 touchedAs kind a =
-    cond (eqb kind 1) (ReadByte a) (cond (eqb kind 2) (ReadHalfword a) (cond (eqb kind 3) (WroteByte a) (cond (eqb kind 4) (WroteHalfword a) NoData)))
+    cond (eqb kind 1) (ReadByte a)
+    (cond (eqb kind 2) (ReadHalfword a)
+    (cond (eqb kind 3) (WroteByte a)
+    (cond (eqb kind 4) (WroteHalfword a) NoData)))
 
 abbrev pub trafficIn : ℕ → Traffic
 trafficIn word = touchedAs (word / 0x10000) (record { 0 = word % 0x10000 })

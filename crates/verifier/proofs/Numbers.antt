@@ -20,7 +20,9 @@ withLast (suc n) t14 = suc n
 
 first-answer : (a : ByteAddress) (t10 t11 t12 t13 t14 : Bool)
     → answerAt a (withLast (firstOf t10 t11 t12 t13) t14)
-    ≡ firstNo (atAddress a 9 true ∷ atAddress a 10 t10 ∷ atAddress a 11 t11 ∷ atAddress a 12 t12 ∷ atAddress a 13 t13 ∷ atAddress a 14 t14 ∷ [])
+    ≡ firstNo
+    (atAddress a 9 true ∷ atAddress a 10 t10 ∷ atAddress a 11 t11 ∷ atAddress a 12 t12
+    ∷ atAddress a 13 t13 ∷ atAddress a 14 t14 ∷ [])
 unfolding firstNo
 first-answer a true true true true true = refl
 first-answer a true true true true false = refl
@@ -30,7 +32,8 @@ first-answer a true false t12 t13 t14 = refl
 first-answer a false t11 t12 t13 t14 = refl
 
 module _ (s : State) (layout : Layout) (a : ByteAddress) (isLast : Bool) (h : ℕ) where
-  told : (d : Decoded) → answerAt a (withLast (numberOf s layout a d) (check14 isLast h)) ≡ firstNo (halfwordChecks s layout a isLast h d)
+  told : (d : Decoded) → answerAt a (withLast (numberOf s layout a d) (check14 isLast h))
+      ≡ firstNo (halfwordChecks s layout a isLast h d)
   unfolding firstNo
   told Undefined = refl
   told (Defined i) =
@@ -38,7 +41,8 @@ module _ (s : State) (layout : Layout) (a : ByteAddress) (isLast : Bool) (h : �
       (check11 (value s (accessOf i .base)) (accessOf i)) (check12 i) (check13 layout a i) (check14 isLast h)
 
   -- a number that is not 0 is the answer
-  pub told-first : (d : Decoded) (n : ℕ) → n ≡ numberOf s layout a d → (n ≡ 0 → ⊥) → answerAt a n ≡ firstNo (halfwordChecks s layout a isLast h d)
+  pub told-first : (d : Decoded) (n : ℕ) → n ≡ numberOf s layout a d → (n ≡ 0 → ⊥)
+      → answerAt a n ≡ firstNo (halfwordChecks s layout a isLast h d)
   told-first d zero e ne = absurd (ne refl)
   told-first d (suc n) e ne = rw (← e) at (told d)
 

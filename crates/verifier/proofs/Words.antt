@@ -1,21 +1,26 @@
 -- A list of words as a state.
 use mathlib.Core.List.{List, [], _∷_}
-use mathlib.Core.Path.{_≡_, refl, ap}
+use mathlib.Core.Path.{_≡_, refl, ap, _∙_}
 use Prim.Native.Nat.{ℕ, zero, suc, _+_, _*_, _/_, _%_, _<_}
 use native.Mathlib.Nat.{le-of-suc-le-suc, not-suc-le-zero}
 use native.Mathlib.Omega.{arith}
 use lib.ListN.{length, getD, set, replicate}
+use Rattle.domain.specs.Value.{unknownOf}
 use Rattle.domain.specs.declared.value.Value.{Value}
-use Rattle.checks.specs.State.{State, value}
+use Rattle.checks.specs.State.{State, registerCount, value, unknownState}
 use Rattle.verifier.specs.Words.{valueOf, stateOf}
 
 pub length-state : (ws : List ℕ) → length (stateOf ws) ≡ length ws
 length-state [] = refl
 length-state (w ∷ ws) = ap suc (length-state ws)
 
-pub state-replicate : (n w : ℕ) → stateOf (replicate n w) ≡ replicate n (valueOf w)
+state-replicate : (n w : ℕ) → stateOf (replicate n w) ≡ replicate n (valueOf w)
 state-replicate zero w = refl
 state-replicate (suc n) w = ap (λ (s : State). valueOf w ∷ s) (state-replicate n w)
+
+-- the words of a state of which nothing is known
+pub unknown-words : (w : ℕ) → valueOf w ≡ unknownOf → stateOf (replicate registerCount w) ≡ unknownState
+unknown-words w e = state-replicate registerCount w ∙ ap (replicate registerCount) e
 
 -- one word is one register's value
 pub state-value : (ws : List ℕ) (r : ℕ) → r < length ws → valueOf (getD ws r 0) ≡ value (stateOf ws) r
@@ -33,7 +38,8 @@ pub word-value : (v : Value) → v .low < 0x10000 → v .high < 0x10000 → v .z
     → valueOf (v .low + v .high * 0x10000 + v .zeros * 0x100000000) ≡ v
 word-value v l h z =
     let e₀ : (v .low + v .high * 0x10000 + v .zeros * 0x100000000) % 0x10000 ≡ v .low = omega arith in
-    let d : (v .low + v .high * 0x10000 + v .zeros * 0x100000000) / 0x10000 ≡ v .high + v .zeros * 0x10000 = omega arith in
+    let d : (v .low + v .high * 0x10000 + v .zeros * 0x100000000) / 0x10000 ≡ v .high + v .zeros * 0x10000 =
+    omega arith in
     let e₁ : (v .high + v .zeros * 0x10000) % 0x10000 ≡ v .high = omega arith in
     let c : (v .low + v .high * 0x10000 + v .zeros * 0x100000000) / 0x100000000 ≡ v .zeros = omega arith in
     let e₂ : v .zeros % 0x100 ≡ v .zeros = omega arith in

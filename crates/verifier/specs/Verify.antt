@@ -17,11 +17,13 @@ use Rattle.checks.specs.Questions.{halfwordChecks}
 use Rattle.verifier.specs.declared.verifier.Verdict.{Verdict}
 use Rattle.verifier.specs.declared.verifier.Verdict.the-variants.{Fit, Refused}
 
--- the state in which instruction i is checked, from the state that falls into it: at a branch target nothing is known but the address
+-- the state in which instruction i is checked, from the state that falls into it: at a branch target nothing is
+-- known but the address
 abbrev pub arriving : List ℕ → ℕ → State → State
 arriving code i s = standingAt (addressOf i) (cond (targeted code i) unknownState s)
 
--- the state that falls into instruction i: nothing is known at address 0; after that, what the instruction above leaves, be it a branch or not
+-- the state that falls into instruction i: nothing is known at address 0; after that, what the instruction
+-- above leaves, be it a branch or not
 unfoldable pub entering : List ℕ → ℕ → State
 entering code zero = unknownState
 entering code (suc i) = afterOf (addressOf i) (decodedAt code i) (arriving code i (entering code i))

@@ -10,7 +10,6 @@ use targets::set_mark;
 use units::ByteAddress;
 use units::InstructionIndex;
 use units::halfword_at;
-ghost use mathlib.Core.Bool.{false, _||_};
 ghost use mathlib.Core.Path.{_≡_};
 ghost use Prim.Native.Nat.{ℕ, _<_};
 ghost use lib.ListN.{length};
@@ -19,8 +18,9 @@ ghost use Rattle.isa.specs.Decode.{decodeOf};
 ghost use Rattle.image.specs.Check.{checkOf};
 ghost use Rattle.image.specs.Code.{codeOf};
 ghost use Rattle.image.specs.Format.{mostCode};
-ghost use Rattle.targets.specs.Targets.{jumpAt, landsOn, targetedBelow, targeted, markWords, markedAt};
-ghost use Rattle.verifier.specs.Position.{BlockAt, blockEnd};
+ghost use Rattle.targets.specs.Targets.{jumpAt, targeted, markWords, markedAt};
+ghost use Rattle.verifier.specs.Marks.{Unmarked, MarkedTo, MarkedBelow};
+ghost use Rattle.verifier.specs.Position.{BlockOf, blockEnd};
 
 // The most instructions that a code has: 64 for each word of marks.
 const MOST_CODE: u16 = image::MOST_CODE as u16;
@@ -29,8 +29,7 @@ const MOST_CODE: u16 = image::MOST_CODE as u16;
 // and a code can reach so far.
 fn mark_target(marks: &mut [u64; 249], i: InstructionIndex, h: u16)
     requires { ⌜ length (now marks) ≡ markWords ⌝ }
-    ensures { λ r. ⌜ length (now (marks .exit)) ≡ markWords ⌝ }
-    ensures { λ r. ⌜ ((j : ℕ) → j < mostCode → markedAt (now (marks .exit)) j ≡ (landsOn (jumpAt (byteAddressOf i) (decodeOf h)) j || markedAt (now (marks .entry)) j)) ⌝ }
+    ensures { λ _. ⌜ MarkedTo (jumpAt (byteAddressOf i) (decodeOf h)) (now (marks .entry)) (now (marks .exit)) ⌝ }
 {
     let Target::To(a) = jump(units::byte_address(i), h) else {
         return;
@@ -50,11 +49,10 @@ fn mark_block(
     first: usize,
     marks: &mut [u64; 249],
 )
-    requires { ⌜ checkOf (now file) ≡ Checked.Valid layout ⌝ }
-    requires { ⌜ (start .0 < length (codeOf (now file))) × BlockAt (start .0) first ⌝ }
-    requires { ⌜ (length (now marks) ≡ markWords) × ((j : ℕ) → j < mostCode → markedAt (now marks) j ≡ targetedBelow (codeOf (now file)) (start .0) j) ⌝ }
-    ensures { λ _. ⌜ length (now (marks .exit)) ≡ markWords ⌝ }
-    ensures { λ _. ⌜ ((j : ℕ) → j < mostCode → markedAt (now (marks .exit)) j ≡ targetedBelow (codeOf (now (file .entry))) (blockEnd (start .0) (length (codeOf (now (file .entry))))) j) ⌝ }
+    requires { ⌜ BlockOf (now file) layout (start .0) first ⌝ }
+    requires { ⌜ MarkedBelow (codeOf (now file)) (start .0) (now marks) ⌝ }
+    ensures { λ _. ⌜ MarkedBelow (codeOf (now (file .entry)))
+        (blockEnd (start .0) (length (codeOf (now (file .entry))))) (now (marks .exit)) ⌝ }
 {
     let count = units::instruction_index(ByteAddress(layout.code_bytes));
     let end = block_end(start, count);
@@ -73,8 +71,9 @@ fn mark_block(
 // code goes to j. The marks are borrowed, since an answer of 2 KB would be copied.
 pub(crate) fn mark_targets(file: &[u8], layout: Layout, marks: &mut [u64; 249])
     requires { ⌜ checkOf (now file) ≡ Checked.Valid layout ⌝ }
-    requires { ⌜ (length (now marks) ≡ markWords) × ((j : ℕ) → markedAt (now marks) j ≡ false) ⌝ }
-    ensures { λ _. ⌜ ((j : ℕ) → j < mostCode → markedAt (now (marks .exit)) j ≡ targeted (codeOf (now (file .entry))) j) ⌝ }
+    requires { ⌜ Unmarked (now marks) ⌝ }
+    ensures { λ _. ⌜ ((j : ℕ) → j < mostCode
+        → markedAt (now (marks .exit)) j ≡ targeted (codeOf (now (file .entry))) j) ⌝ }
 {
     let count = units::instruction_index(ByteAddress(layout.code_bytes));
     let mut i = InstructionIndex(0);

@@ -20,18 +20,18 @@ use units::InstructionIndex;
 use units::halfword_at;
 ghost use mathlib.Core.Bool.{cond};
 ghost use mathlib.Core.Path.{_≡_};
-ghost use Prim.Native.Nat.{ℕ, _<_};
+ghost use Prim.Native.Nat.{_<_};
 ghost use lib.ListN.{length};
 ghost use Rattle.refusals.specs.Refusal.{refusalAt};
 ghost use Rattle.units.specs.Address.{byteAddressOf};
 ghost use Rattle.image.specs.Check.{checkOf};
 ghost use Rattle.image.specs.Code.{codeOf};
 ghost use Rattle.image.specs.Format.{mostCode};
-ghost use Rattle.targets.specs.Targets.{targeted, markedAt};
+ghost use Rattle.targets.specs.Targets.{markedAt};
 ghost use Rattle.checks.specs.State.{unknownState, standingAt};
-ghost use Rattle.verifier.specs.Position.{BlockAt, blockEnd};
-ghost use Rattle.verifier.specs.Progress.{PassedBelow, WalkedTo};
-ghost use Rattle.verifier.specs.Verify.{entering, verifyCode, verifyOf};
+ghost use Rattle.verifier.specs.Position.{blockEnd};
+ghost use Rattle.verifier.specs.Progress.{WalkedTo, BlockAhead, NoneAhead};
+ghost use Rattle.verifier.specs.Verify.{verifyCode, verifyOf};
 ghost use Rattle.verifier.specs.Words.{stateOf};
 
 // The answer to a file: its layout, or the first check that it fails.
@@ -54,7 +54,9 @@ fn refusal_at(number: u8, a: ByteAddress) -> Refusal
 // checked: at a branch target nothing is known, and R15 is its own address.
 fn arrive(state: &mut [u64; 16], marks: &[u64; 249], i: InstructionIndex)
     requires { ⌜ i .0 < mostCode ⌝ }
-    ensures { λ _. ⌜ stateOf (now (state .exit)) ≡ standingAt (byteAddressOf i) (cond (markedAt (now (marks .entry)) (i .0)) unknownState (stateOf (now (state .entry)))) ⌝ }
+    ensures { λ _. ⌜ stateOf (now (state .exit))
+        ≡ standingAt (byteAddressOf i)
+        (cond (markedAt (now (marks .entry)) (i .0)) unknownState (stateOf (now (state .entry)))) ⌝ }
 {
     if is_marked(marks, i) {
         *state = [word_of(domain::unknown()); REGISTERS];
@@ -73,11 +75,9 @@ fn walk_block(
     start: InstructionIndex,
     first: usize,
 ) -> Answer
-    requires { ⌜ checkOf (now file) ≡ Checked.Valid layout ⌝ }
-    requires { ⌜ ((j : ℕ) → j < mostCode → markedAt (now marks) j ≡ targeted (codeOf (now file)) j) ⌝ }
-    requires { ⌜ (start .0 < length (codeOf (now file))) × BlockAt (start .0) first ⌝ }
-    requires { ⌜ (stateOf (now state) ≡ entering (codeOf (now file)) (start .0)) × PassedBelow (codeOf (now file)) layout (start .0) ⌝ }
-    ensures { λ r. ⌜ WalkedTo (codeOf (now (file .entry))) layout (blockEnd (start .0) (length (codeOf (now (file .entry))))) (stateOf (now (state .exit))) r ⌝ }
+    requires { ⌜ BlockAhead (now file) layout (now marks) (now state) (start .0) first ⌝ }
+    ensures { λ r. ⌜ WalkedTo (codeOf (now (file .entry))) layout
+        (blockEnd (start .0) (length (codeOf (now (file .entry))))) (stateOf (now (state .exit))) r ⌝ }
 {
     let count = units::instruction_index(ByteAddress(layout.code_bytes));
     let end = block_end(start, count);
@@ -100,7 +100,7 @@ fn walk_block(
 // The verdict on a code that passes every check but 14, which is about its last
 // instruction.
 fn check_end(file: &[u8], layout: Layout) -> Verdict
-    requires { ⌜ (checkOf (now file) ≡ Checked.Valid layout) × PassedBelow (codeOf (now file)) layout (length (codeOf (now file))) ⌝ }
+    requires { ⌜ NoneAhead (now file) layout ⌝ }
     ensures { λ r. ⌜ r ≡ verifyCode (codeOf (now (file .entry))) layout ⌝ }
 {
     let count = units::instruction_index(ByteAddress(layout.code_bytes));

@@ -14,16 +14,18 @@ use image::Layout;
 use targets::Target;
 use targets::jump;
 use units::ByteAddress;
+ghost use mathlib.Core.List.{List};
 ghost use mathlib.Core.Path.{_≡_};
+ghost use Prim.Native.Nat.{ℕ};
 ghost use lib.ListN.{length, set};
 ghost use Rattle.units.specs.Address.{pcSum};
 ghost use Rattle.units.specs.Field.{field};
 ghost use Rattle.isa.specs.Decode.{haltOf, aluOf, highOf, registersOf, memoryOf, decodeOf};
 ghost use Rattle.domain.specs.Value.{exactlyOf};
 ghost use Rattle.targets.specs.Targets.{jumpAt};
-ghost use Rattle.checks.specs.State.{State, registerCount, afterOf};
+ghost use Rattle.checks.specs.State.{registerCount};
+ghost use Rattle.verifier.specs.Visit.{Visited};
 ghost use Rattle.verifier.specs.Words.{stateOf};
-ghost use Rattle.verifier.specs.Numbers.{numberOf};
 
 // Check 9 of a halfword that is no instruction.
 const UNDEFINED: u8 = 9;
@@ -34,14 +36,15 @@ const REGISTER_FORMAT: u8 = 2;
 const MEMORY_FORMAT: u8 = 3;
 
 fn visit_halt(h: u16) -> u8
-    ensures { λ r. ⌜ ((s : State) (layout : Layout) (a : ByteAddress) → r ≡ numberOf s layout a (haltOf h)) ⌝ }
+    ensures { λ r. ⌜ ((layout : Layout) (a : ByteAddress) (ws : List ℕ) → Visited layout a (haltOf h) ws ws r) ⌝ }
 {
     if h < 256 { 0 } else { UNDEFINED }
 }
 
 // MOV of an immediate.
 fn move_imm(state: &mut [u64; 16], h: u16)
-    ensures { λ _. ⌜ stateOf (now (state .exit)) ≡ set (stateOf (now (state .entry))) (field h 8 3) (exactlyOf (field h 0 8)) ⌝ }
+    ensures { λ _. ⌜ stateOf (now (state .exit))
+        ≡ set (stateOf (now (state .entry))) (field h 8 3) (exactlyOf (field h 0 8)) ⌝ }
 {
     let imm = units::bits(h, 0, 8) as u16;
     set_value(state, units::bits(h, 8, 3), domain::exactly(imm));
@@ -49,7 +52,8 @@ fn move_imm(state: &mut [u64; 16], h: u16)
 
 fn visit_alu(state: &mut [u64; 16], h: u16) -> u8
     requires { ⌜ length (now state) ≡ registerCount ⌝ }
-    ensures { λ r. ⌜ ((s : State) (layout : Layout) (a : ByteAddress) → r ≡ numberOf s layout a (aluOf h)) × ((a : ByteAddress) → stateOf (now (state .exit)) ≡ afterOf a (aluOf h) (stateOf (now (state .entry)))) ⌝ }
+    ensures { λ r. ⌜ ((layout : Layout) (a : ByteAddress)
+        → Visited layout a (aluOf h) (now (state .entry)) (now (state .exit)) r) ⌝ }
 {
     let rd = units::bits(h, 0, 3);
     let d = value_at(state, rd);
@@ -81,7 +85,7 @@ fn visit_alu(state: &mut [u64; 16], h: u16) -> u8
 // both behind it. With two low registers, or with bit 9 set, it is no instruction.
 fn visit_compare(h: u16) -> u8
     requires { ⌜ field h 8 1 ≡ 1 ⌝ }
-    ensures { λ r. ⌜ ((s : State) (layout : Layout) (a : ByteAddress) → r ≡ numberOf s layout a (highOf h)) × ((s : State) (a : ByteAddress) → s ≡ afterOf a (highOf h) s) ⌝ }
+    ensures { λ r. ⌜ ((layout : Layout) (a : ByteAddress) (ws : List ℕ) → Visited layout a (highOf h) ws ws r) ⌝ }
 {
     let operation = units::bits(h, 6, 4);
     if operation < 5 {
@@ -96,7 +100,8 @@ fn visit_compare(h: u16) -> u8
 // ADD, MOV and CMP of any registers.
 fn visit_high(state: &mut [u64; 16], h: u16) -> u8
     requires { ⌜ length (now state) ≡ registerCount ⌝ }
-    ensures { λ r. ⌜ ((s : State) (layout : Layout) (a : ByteAddress) → r ≡ numberOf s layout a (highOf h)) × ((a : ByteAddress) → stateOf (now (state .exit)) ≡ afterOf a (highOf h) (stateOf (now (state .entry)))) ⌝ }
+    ensures { λ r. ⌜ ((layout : Layout) (a : ByteAddress)
+        → Visited layout a (highOf h) (now (state .entry)) (now (state .exit)) r) ⌝ }
 {
     if units::bits(h, 8, 1) == 1 {
         return visit_compare(h);
@@ -115,7 +120,8 @@ fn visit_high(state: &mut [u64; 16], h: u16) -> u8
 // The operations on registers, in two formats.
 fn visit_registers(state: &mut [u64; 16], h: u16) -> u8
     requires { ⌜ length (now state) ≡ registerCount ⌝ }
-    ensures { λ r. ⌜ ((s : State) (layout : Layout) (a : ByteAddress) → r ≡ numberOf s layout a (registersOf h)) × ((a : ByteAddress) → stateOf (now (state .exit)) ≡ afterOf a (registersOf h) (stateOf (now (state .entry)))) ⌝ }
+    ensures { λ r. ⌜ ((layout : Layout) (a : ByteAddress)
+        → Visited layout a (registersOf h) (now (state .entry)) (now (state .exit)) r) ⌝ }
 {
     match units::bits(h, 10, 3) {
         0 => visit_alu(state, h),
@@ -133,7 +139,8 @@ fn load(state: &mut [u64; 16], h: u16, v: Value)
 
 // ADD Rd, PC at an address.
 fn add_pc(state: &mut [u64; 16], a: ByteAddress, h: u16)
-    ensures { λ _. ⌜ stateOf (now (state .exit)) ≡ set (stateOf (now (state .entry))) (field h 8 3) (exactlyOf (pcSum a (field h 0 8))) ⌝ }
+    ensures { λ _. ⌜ stateOf (now (state .exit))
+        ≡ set (stateOf (now (state .entry))) (field h 8 3) (exactlyOf (pcSum a (field h 0 8))) ⌝ }
 {
     let sum = units::pc_sum(a, units::bits(h, 0, 8));
     set_value(state, units::bits(h, 8, 3), domain::exactly(sum));
@@ -142,7 +149,7 @@ fn add_pc(state: &mut [u64; 16], a: ByteAddress, h: u16)
 // STR and LDR, which bit 11 tells apart. A store leaves every value as it is.
 fn visit_halfword(state: &mut [u64; 16], layout: Layout, h: u16) -> u8
     requires { ⌜ (length (now state) ≡ registerCount) × (field h 12 1 ≡ 0) ⌝ }
-    ensures { λ r. ⌜ ((a : ByteAddress) → r ≡ numberOf (stateOf (now (state .entry))) layout a (memoryOf h)) × ((a : ByteAddress) → stateOf (now (state .exit)) ≡ afterOf a (memoryOf h) (stateOf (now (state .entry)))) ⌝ }
+    ensures { λ r. ⌜ ((a : ByteAddress) → Visited layout a (memoryOf h) (now (state .entry)) (now (state .exit)) r) ⌝ }
 {
     let base = value_at(state, units::bits(h, 3, 3));
     let no = check_halfword(base, layout, h);
@@ -156,7 +163,7 @@ fn visit_halfword(state: &mut [u64; 16], layout: Layout, h: u16) -> u8
 // STRB and LDRB, likewise.
 fn visit_byte(state: &mut [u64; 16], layout: Layout, h: u16) -> u8
     requires { ⌜ (length (now state) ≡ registerCount) × (field h 12 1 ≡ 1) ⌝ }
-    ensures { λ r. ⌜ ((a : ByteAddress) → r ≡ numberOf (stateOf (now (state .entry))) layout a (memoryOf h)) × ((a : ByteAddress) → stateOf (now (state .exit)) ≡ afterOf a (memoryOf h) (stateOf (now (state .entry)))) ⌝ }
+    ensures { λ r. ⌜ ((a : ByteAddress) → Visited layout a (memoryOf h) (now (state .entry)) (now (state .exit)) r) ⌝ }
 {
     let base = value_at(state, units::bits(h, 3, 3));
     let no = check_byte(base, layout, h);
@@ -170,7 +177,7 @@ fn visit_byte(state: &mut [u64; 16], layout: Layout, h: u16) -> u8
 // Loads and stores.
 fn visit_memory(state: &mut [u64; 16], layout: Layout, h: u16) -> u8
     requires { ⌜ length (now state) ≡ registerCount ⌝ }
-    ensures { λ r. ⌜ ((a : ByteAddress) → r ≡ numberOf (stateOf (now (state .entry))) layout a (memoryOf h)) × ((a : ByteAddress) → stateOf (now (state .exit)) ≡ afterOf a (memoryOf h) (stateOf (now (state .entry)))) ⌝ }
+    ensures { λ r. ⌜ ((a : ByteAddress) → Visited layout a (memoryOf h) (now (state .entry)) (now (state .exit)) r) ⌝ }
 {
     if units::bits(h, 12, 1) == 0 {
         visit_halfword(state, layout, h)
@@ -182,7 +189,7 @@ fn visit_memory(state: &mut [u64; 16], layout: Layout, h: u16) -> u8
 // Checks 9 to 12 of a halfword that is no branch, and the state behind it.
 fn visit_straight(state: &mut [u64; 16], layout: Layout, a: ByteAddress, h: u16) -> u8
     requires { ⌜ (length (now state) ≡ registerCount) × (jumpAt a (decodeOf h) ≡ Target.Nowhere) ⌝ }
-    ensures { λ r. ⌜ (r ≡ numberOf (stateOf (now (state .entry))) layout a (decodeOf h)) × (stateOf (now (state .exit)) ≡ afterOf a (decodeOf h) (stateOf (now (state .entry)))) ⌝ }
+    ensures { λ r. ⌜ Visited layout a (decodeOf h) (now (state .entry)) (now (state .exit)) r ⌝ }
 {
     if units::bits(h, 13, 3) == REGISTER_FORMAT {
         return visit_registers(state, h);
@@ -210,7 +217,7 @@ fn visit_straight(state: &mut [u64; 16], layout: Layout, a: ByteAddress, h: u16)
 // branch leaves as it is.
 pub(crate) fn visit(state: &mut [u64; 16], layout: Layout, a: ByteAddress, h: u16) -> u8
     requires { ⌜ length (now state) ≡ registerCount ⌝ }
-    ensures { λ r. ⌜ (r ≡ numberOf (stateOf (now (state .entry))) layout a (decodeOf h)) × (stateOf (now (state .exit)) ≡ afterOf a (decodeOf h) (stateOf (now (state .entry)))) ⌝ }
+    ensures { λ r. ⌜ Visited layout a (decodeOf h) (now (state .entry)) (now (state .exit)) r ⌝ }
 {
     let Target::To(target) = jump(a, h) else {
         return visit_straight(state, layout, a, h);

@@ -12,12 +12,15 @@ use Rattle.units.specs.Address.{pcSum}
 use Rattle.isa.specs.declared.decoder.Decoded.{Decoded}
 use Rattle.isa.specs.declared.decoder.Decoded.the-variants.{Defined, Undefined}
 use Rattle.isa.specs.declared.instruction.Instruction.{Instruction}
-use Rattle.isa.specs.declared.instruction.Instruction.the-variants.{MovImm, CmpImm, And, Eor, Asr, Tst, Neg, Cmp, AddHigh, CmpHigh, MovHigh, Str, Ldr, Strb, Ldrb, AddPc, Branch, Halt}
+use Rattle.isa.specs.declared.instruction.Instruction.the-variants.{MovImm, CmpImm, And, Eor, Asr, Tst, Neg, Cmp}
+use Rattle.isa.specs.declared.instruction.Instruction.the-variants.{AddHigh, CmpHigh, MovHigh, Str, Ldr, Strb, Ldrb}
+use Rattle.isa.specs.declared.instruction.Instruction.the-variants.{AddPc, Branch, Halt}
 use Rattle.isa_laws.proofs.Narrow.{Narrow, decoded-narrow}
 use Rattle.domain.specs.Value.{largest, unknownOf, exactlyOf, addOf}
 use Rattle.domain.specs.declared.value.Value.{Value}
 use Rattle.domain_laws.specs.Ordered.{Ordered}
-use Rattle.domain_laws.proofs.Ordered.{unknown-ordered, exactly-ordered, byte-ordered, neg-ordered, asr-ordered, add-ordered, and-ordered, eor-ordered, add-low}
+use Rattle.domain_laws.proofs.Ordered.{unknown-ordered, exactly-ordered, byte-ordered, neg-ordered, asr-ordered}
+use Rattle.domain_laws.proofs.Ordered.{add-ordered, and-ordered, eor-ordered, add-low}
 use Rattle.targets.specs.Targets.{addressOf, decodedAt, targeted}
 use Rattle.checks.specs.State.{State, value, unknownState, standingAt, transferOf, afterOf}
 use Rattle.verifier.specs.Verify.{entering, valuesAt}
@@ -47,7 +50,8 @@ unknown-all r = go (decLt r 16)
     go (yes l) = rw (getD-replicate 16 r unknownOf unknownOf l) unknown-ordered
     go (no l) = past unknownState r (omega arith)
 
-arriving-ordered : (a : ByteAddress) (t : Bool) (s : State) → a .0 ≤ largest → AllOrdered s → AllOrdered (standingAt a (cond t unknownState s))
+arriving-ordered : (a : ByteAddress) (t : Bool) (s : State) → a .0 ≤ largest → AllOrdered s
+    → AllOrdered (standingAt a (cond t unknownState s))
 arriving-ordered a true s h all = set-ordered unknownState 15 (exactlyOf (a .0)) unknown-all (exactly-ordered (a .0) h)
 arriving-ordered a false s h all = set-ordered s 15 (exactlyOf (a .0)) all (exactly-ordered (a .0) h)
 
@@ -78,18 +82,22 @@ module _ (code : List ℕ) where
   unfolding decodedAt
   narrow i instruction e = decoded-narrow (getD code i 0) instruction (sym e)
 
-  after-ordered : (i : ℕ) (d : Decoded) (s : State) → decodedAt code i ≡ d → AllOrdered s → AllOrdered (afterOf (addressOf i) d s)
-  after-ordered i (Defined instruction) s e all = transfer-ordered (addressOf i) s all instruction (narrow i instruction e)
+  after-ordered : (i : ℕ) (d : Decoded) (s : State) → decodedAt code i ≡ d → AllOrdered s
+      → AllOrdered (afterOf (addressOf i) d s)
+  after-ordered i (Defined instruction) s e all =
+      transfer-ordered (addressOf i) s all instruction (narrow i instruction e)
   after-ordered i Undefined s e all = all
 
   entering-ordered : (i : ℕ) → AllOrdered (entering code i)
   unfolding entering
   entering-ordered zero = unknown-all
   entering-ordered (suc i) =
-      after-ordered i (decodedAt code i) (valuesAt code i) refl (arriving-ordered (addressOf i) (targeted code i) (entering code i) (omega arith) (entering-ordered i))
+      after-ordered i (decodedAt code i) (valuesAt code i) refl
+      (arriving-ordered (addressOf i) (targeted code i) (entering code i) (omega arith) (entering-ordered i))
 
 pub low-below-high : LowBelowHigh
-low-below-high code i = arriving-ordered (addressOf i) (targeted code i) (entering code i) (omega arith) (entering-ordered code i)
+low-below-high code i =
+    arriving-ordered (addressOf i) (targeted code i) (entering code i) (omega arith) (entering-ordered code i)
 
 pub adds-plainly : AddsPlainly
 unfolding entering

@@ -9,6 +9,7 @@ use borrow.Author.Tests.{eqb-true, eq-eqb}
 use lib.ListN.{length, getD}
 use Rattle.units.specs.Address.{instructionIndexOf, branchTargetOf}
 use Rattle.units.specs.Field.{field}
+use Rattle.units.proofs.Cases.{clash}
 use Rattle.isa.specs.Decode.{decodeOf}
 use Rattle.isa.specs.declared.decoder.Decoded.{Decoded}
 use Rattle.isa.specs.declared.decoder.Decoded.the-variants.{Defined}
@@ -25,32 +26,43 @@ use Rattle.verifier_laws.specs.Claims.{TargetsExactly, ForgetsAtTargets}
 module _ (code : List ℕ) (j : ℕ) where
   goes-below : (n k : ℕ) → k < n → goesTo code k j ≡ true → targetedBelow code n j ≡ true
   unfolding targetedBelow
-  goes-below n k h e = le-ind (λ (m : ℕ). targetedBelow code m j ≡ true) (rw e refl) (λ m _ ih. rw ih (or-true (goesTo code m j))) n h
+  goes-below n k h e =
+      le-ind (λ (m : ℕ). targetedBelow code m j ≡ true) (rw e refl) (λ m _ ih. rw ih (or-true (goesTo code m j))) n h
 
   below-goes : (n : ℕ) → targetedBelow code n j ≡ true → (k : ℕ) × (k < n) × (goesTo code k j ≡ true)
   unfolding targetedBelow
-  below-goes zero e = let z : _≡_ {A = ℕ} 0 1 = cc in absurd (omega arith)
+  below-goes zero e = clash (cc)
   below-goes (suc n) e = go (goesTo code n j) refl e (λ p. below-goes n p)
     where
       go : (t : Bool) → goesTo code n j ≡ t → (t || targetedBelow code n j) ≡ true
-          → (targetedBelow code n j ≡ true → (k : ℕ) × (k < n) × (goesTo code k j ≡ true)) → (k : ℕ) × (k < suc n) × (goesTo code k j ≡ true)
+          → (targetedBelow code n j ≡ true → (k : ℕ) × (k < n) × (goesTo code k j ≡ true))
+          → (k : ℕ) × (k < suc n) × (goesTo code k j ≡ true)
       go true q p rest = (n, omega arith, q)
       go false q p rest = let r = rest p in (r .0, omega (arith, r .1), r .2)
 
   -- only a branch goes anywhere, and it goes to its target
   goes-reached : (k : ℕ) → k < length code → goesTo code k j ≡ true → Reached code j
   unfolding goesTo decodedAt
-  goes-reached k h e = go (getD code k 0) refl e (decLe 208 (field (getD code k 0) 8 8)) (decLe (field (getD code k 0) 8 8) 221)
+  goes-reached k h e =
+      go (getD code k 0) refl e (decLe 208 (field (getD code k 0) 8 8)) (decLe (field (getD code k 0) 8 8) 221)
     where
       still : (t : Target) → t ≡ Nowhere → landsOn t j ≡ true → Reached code j
       still t q e′ = absurd (false≢true (sym (ap (λ (x : Target). landsOn x j) q) ∙ e′))
 
-      go : (w : ℕ) → getD code k 0 ≡ w → landsOn (jumpAt (addressOf k) (decodeOf w)) j ≡ true → Dec (208 ≤ field w 8 8) → Dec (field w 8 8 ≤ 221) → Reached code j
+      go : (w : ℕ) → getD code k 0 ≡ w → landsOn (jumpAt (addressOf k) (decodeOf w)) j ≡ true
+          → Dec (208 ≤ field w 8 8) → Dec (field w 8 8 ≤ 221) → Reached code j
       go w q e′ (yes low) (yes high) =
           let d = is-branch w low high in
           let there : instructionIndexOf (branchTargetOf (addressOf k) (field w 0 8)) .0 ≡ j
           = eqb-true _ _ (sym (ap (λ (x : Decoded). landsOn (jumpAt (addressOf k) x) j) d) ∙ e′) in
-          record { branch = k; inside = omega arith; condition = field w 8 4; offset = field w 0 8; decoded = ap decodeOf q ∙ d; there = omega arith }
+          record {
+            branch = k;
+            inside = omega arith;
+            condition = field w 8 4;
+            offset = field w 0 8;
+            decoded = ap decodeOf q ∙ d;
+            there = omega arith;
+          }
       go w q e′ (yes low) (no high) = still _ (no-branch (addressOf k) w (λ l u. high u)) e′
       go w q e′ (no low) t = still _ (no-branch (addressOf k) w (λ l u. low l)) e′
 
@@ -79,7 +91,8 @@ module _ (code : List ℕ) where
   target-values j e = ap (λ (t : Bool). standingAt (addressOf j) (cond t unknownState (entering code j))) e
 
   -- elsewhere the state is what the instruction above left
-  next-values : (i : ℕ) (instruction : Instruction) → decodedAt code i ≡ Defined instruction → targeted code (suc i) ≡ false
+  next-values : (i : ℕ) (instruction : Instruction) → decodedAt code i ≡ Defined instruction
+      → targeted code (suc i) ≡ false
       → valuesAt code (suc i) ≡ standingAt (addressOf (suc i)) (transferOf (addressOf i) instruction (valuesAt code i))
   unfolding entering
   next-values i instruction e q =
@@ -91,16 +104,19 @@ module _ (code : List ℕ) where
   unfolding entering
   first-values = go (targeted code 0)
     where
-      go : (t : Bool) → standingAt (addressOf 0) (cond t unknownState unknownState) ≡ standingAt (addressOf 0) unknownState
+      go : (t : Bool) → standingAt (addressOf 0) (cond t unknownState unknownState)
+          ≡ standingAt (addressOf 0) unknownState
       go true = refl
       go false = refl
 
   -- where no branch goes
-  not-reached : (i : ℕ) (instruction : Instruction) → decodedAt code i ≡ Defined instruction → (Reached code (suc i) → ⊥)
+  not-reached : (i : ℕ) (instruction : Instruction) → decodedAt code i ≡ Defined instruction
+      → (Reached code (suc i) → ⊥)
       → valuesAt code (suc i) ≡ standingAt (addressOf (suc i)) (transferOf (addressOf i) instruction (valuesAt code i))
   not-reached i instruction e none = go (targeted code (suc i)) refl
     where
-      go : (t : Bool) → targeted code (suc i) ≡ t → valuesAt code (suc i) ≡ standingAt (addressOf (suc i)) (transferOf (addressOf i) instruction (valuesAt code i))
+      go : (t : Bool) → targeted code (suc i) ≡ t → valuesAt code (suc i)
+          ≡ standingAt (addressOf (suc i)) (transferOf (addressOf i) instruction (valuesAt code i))
       go true q = absurd (none (targeted-reached code (suc i) q))
       go false q = next-values i instruction e q
 
@@ -109,4 +125,8 @@ targets-exactly code j = (targeted-reached code j, reached-targeted code j)
 
 pub forgets-at-targets : ForgetsAtTargets
 forgets-at-targets code =
-    record { first = first-values code; target = λ j r. target-values code j (reached-targeted code j r); next = not-reached code }
+    record {
+      first = first-values code;
+      target = λ j r. target-values code j (reached-targeted code j r);
+      next = not-reached code;
+    }

@@ -6,6 +6,7 @@ use Prim.Native.Nat.{ℕ, zero, suc, _<_}
 use native.Mathlib.Omega.{arith}
 use lib.Dec.{eqb}
 use lib.ListN.{length, getD}
+use Rattle.units.proofs.Cases.{clash}
 use Rattle.refusals.specs.declared.refusal.Refusal.{Refusal}
 use Rattle.isa.specs.declared.decoder.Decoded.{Decoded}
 use Rattle.isa.specs.declared.decoder.Decoded.the-variants.{Defined, Undefined}
@@ -33,10 +34,11 @@ module _ (row : ℕ → List Asked) (r : Refusal) where
 
   first-no : (n : ℕ) → firstNo (rowsBelow row n) ≡ answer.Refused r → FirstBelow n
   unfolding rowsBelow firstNo
-  first-no zero e = let z : _≡_ {A = ℕ} 0 1 = cc in absurd (omega arith)
+  first-no zero e = clash (cc)
   first-no (suc n) e = go (firstNo (rowsBelow row n)) refl (first-no n)
     where
-      go : (a : Answer) → firstNo (rowsBelow row n) ≡ a → (firstNo (rowsBelow row n) ≡ answer.Refused r → FirstBelow n) → FirstBelow (suc n)
+      go : (a : Answer) → firstNo (rowsBelow row n) ≡ a
+          → (firstNo (rowsBelow row n) ≡ answer.Refused r → FirstBelow n) → FirstBelow (suc n)
       go answer.Pass q rest = (n, omega arith, q, sym (next row n q) ∙ e)
       go (answer.Refused s) q rest =
           let t = rest (q ∙ sym (stands row n (suc n) s (omega arith) q) ∙ e) in
@@ -46,7 +48,8 @@ module _ (code : List ℕ) (layout : Layout) where
   -- ---- one instruction
 
   passes : (i : ℕ) (d : Decoded) → decodedAt code i ≡ d
-      → firstNo (halfwordChecks (valuesAt code i) layout (addressOf i) (eqb (suc i) (length code)) (getD code i 0) d) ≡ answer.Pass
+      → firstNo (halfwordChecks (valuesAt code i) layout (addressOf i) (eqb (suc i) (length code)) (getD code i 0) d)
+      ≡ answer.Pass
       → Passes code layout i
   passes i (Defined instruction) q e₉ =
       let e₁₀ = tail-passed _ _ e₉ in
@@ -63,7 +66,7 @@ module _ (code : List ℕ) (layout : Layout) where
         passes13 = head-passed _ _ e₁₃;
         passes14 = head-passed _ _ e₁₄;
       }
-  passes i Undefined q e = let p = head-passed _ _ e in let z : _≡_ {A = ℕ} 0 1 = cc in absurd (omega arith)
+  passes i Undefined q e = let p = head-passed _ _ e in clash (cc)
 
   checks-pass : (i : ℕ) → Passes code layout i → firstNo (checksAt code layout i) ≡ answer.Pass
   unfolding firstNo
@@ -80,10 +83,11 @@ module _ (code : List ℕ) (layout : Layout) where
   -- ---- the verdict on the code
 
   refused-answer : (r : Refusal) (a : Answer) → verdictAs layout a ≡ Refused r → a ≡ answer.Refused r
-  refused-answer r answer.Pass e = let z : _≡_ {A = ℕ} 0 1 = cc in absurd (omega arith)
+  refused-answer r answer.Pass e = clash (cc)
   refused-answer r (answer.Refused s) e = cc
 
-  code-refused : (r : Refusal) → verifyCode code layout ≡ Refused r → firstNo (codeChecks code layout (length code)) ≡ answer.Refused r
+  code-refused : (r : Refusal) → verifyCode code layout ≡ Refused r
+      → firstNo (codeChecks code layout (length code)) ≡ answer.Refused r
   unfolding verifyCode
   code-refused r e = refused-answer r (firstNo (codeChecks code layout (length code))) e
 
@@ -95,18 +99,31 @@ module _ (file : List ℕ) where
     pub fit-passes : verifyOf file ≡ Fit layout → (i : ℕ) → i < length (codeOf file) → Passes (codeOf file) layout i
     unfolding verifyOf
     fit-passes e i h =
-        below-passes (codeOf file) layout (length (codeOf file)) i (code-fit (codeOf file) layout layout (checked-fit file layout (checkOf file) e .1) .0) h
+        below-passes (codeOf file) layout (length (codeOf file)) i
+        (code-fit (codeOf file) layout layout (checked-fit file layout (checkOf file) e .1) .0) h
 
     -- and there is no more to it
-    passes-fit : checkOf file ≡ checked.Valid layout → ((i : ℕ) → i < length (codeOf file) → Passes (codeOf file) layout i) → verifyOf file ≡ Fit layout
+    passes-fit : checkOf file ≡ checked.Valid layout
+        → ((i : ℕ) → i < length (codeOf file) → Passes (codeOf file) layout i) → verifyOf file ≡ Fit layout
     unfolding verifyOf
-    passes-fit ok all = ap (verifyChecked file) ok ∙ sym (fit (codeOf file) layout (below-pass (codeOf file) layout (length (codeOf file)) all))
+    passes-fit ok all =
+        ap (verifyChecked file) ok
+        ∙ sym (fit (codeOf file) layout (below-pass (codeOf file) layout (length (codeOf file)) all))
 
   -- a refused file fails one of checks 2 to 8, or has a first instruction that does not pass
-  refused-first : (r : Refusal) (d : Checked) → checkOf file ≡ d → verifyChecked file d ≡ Refused r → (checkOf file ≡ checked.Refused r) ⊎ RefusedInCode file r
+  refused-first : (r : Refusal) (d : Checked) → checkOf file ≡ d → verifyChecked file d ≡ Refused r
+      → (checkOf file ≡ checked.Refused r) ⊎ RefusedInCode file r
   refused-first r (checked.Valid layout) ok e =
-      let f = first-no (checksAt (codeOf file) layout) r (length (codeOf file)) (code-refused (codeOf file) layout r e) in
-      inr (record { layout = layout; accepted = ok; index = f .0; inside = f .1; before = λ k h. below-passes (codeOf file) layout (f .0) k (f .2) (omega arith); no = f .3 })
+      let code = codeOf file in
+      let f = first-no (checksAt code layout) r (length code) (code-refused code layout r e) in
+      inr (record {
+        layout = layout;
+        accepted = ok;
+        index = f .0;
+        inside = f .1;
+        before = λ k h. below-passes code layout (f .0) k (f .2) (omega arith);
+        no = f .3;
+      })
   refused-first r (checked.Refused s) ok e = let q : s ≡ r = cc in inl (ok ∙ ap checked.Refused q)
 
   first-refused : (r : Refusal) → (checkOf file ≡ checked.Refused r) ⊎ RefusedInCode file r → verifyOf file ≡ Refused r
@@ -114,11 +131,14 @@ module _ (file : List ℕ) where
   first-refused r (inl e) = ap (verifyChecked file) e
   first-refused r (inr f) =
       ap (verifyChecked file) (f .accepted)
-      ∙ sym (refusal (codeOf file) (f .layout) (f .index) r (f .inside) (below-pass (codeOf file) (f .layout) (f .index) (λ k h. f .before k (omega arith))) (f .no))
+      ∙ sym (refusal (codeOf file) (f .layout) (f .index) r (f .inside)
+      (below-pass (codeOf file) (f .layout) (f .index) (λ k h. f .before k (omega arith))) (f .no))
 
 pub passes-exactly : PassesExactly
-passes-exactly file layout =
-    (λ e. (fit-checked file layout e, λ i h. fit-passes file layout e i (omega arith)), λ p. passes-fit file layout (p .0) (λ i h. p .1 i (omega arith)))
+passes-exactly file layout = (
+  λ e. (fit-checked file layout e, λ i h. fit-passes file layout e i (omega arith)),
+  λ p. passes-fit file layout (p .0) (λ i h. p .1 i (omega arith)),
+)
 
 pub refuses-exactly : RefusesExactly
 unfolding verifyOf

@@ -22,11 +22,13 @@ use Rattle.verifier.specs.Verify.{entering, valuesAt, checksAt, verifyOf}
 use Rattle.verifier.specs.declared.verifier.Verdict.the-variants.{Fit, Refused}
 use Rattle.verifier_laws.specs.Passes.{Passes, Reached}
 
--- a file is fit exactly when checks 2 to 8 accept it, with that layout, and each instruction of its code passes checks 9 to 14
+-- a file is fit exactly when checks 2 to 8 accept it, with that layout, and each instruction of its code passes
+-- checks 9 to 14
 abbrev pub PassesExactly : Type 0
 PassesExactly =
     (file : List ℕ) (layout : Layout)
-    → (verifyOf file ≡ Fit layout) ↔ ((checkOf file ≡ checked.Valid layout) × ((i : ℕ) → i < length (codeOf file) → Passes (codeOf file) layout i))
+    → (verifyOf file ≡ Fit layout)
+    ↔ ((checkOf file ≡ checked.Valid layout) × ((i : ℕ) → i < length (codeOf file) → Passes (codeOf file) layout i))
 
 -- an accepted file has an instruction that does not pass: all before it do, and r is the first no of its own checks
 pub record RefusedInCode (file : List ℕ) (r : Refusal) : Type 0 where
@@ -40,14 +42,15 @@ pub record RefusedInCode (file : List ℕ) (r : Refusal) : Type 0 where
 -- a file is refused exactly by the first no: that of checks 2 to 8, or of the first instruction that does not pass
 abbrev pub RefusesExactly : Type 0
 RefusesExactly =
-    (file : List ℕ) (r : Refusal) → (verifyOf file ≡ Refused r) ↔ ((checkOf file ≡ checked.Refused r) ⊎ RefusedInCode file r)
+    (file : List ℕ) (r : Refusal)
+    → (verifyOf file ≡ Refused r) ↔ ((checkOf file ≡ checked.Refused r) ⊎ RefusedInCode file r)
 
 -- an instruction is a branch target exactly when some branch of the code goes to it
 abbrev pub TargetsExactly : Type 0
 TargetsExactly = (code : List ℕ) (j : ℕ) → (targeted code j ≡ true) ↔ Reached code j
 
--- the states along a code: at address 0 and at branch targets only the address is known; elsewhere the state is what the instruction above leaves, be
--- it a branch or not
+-- the states along a code: at address 0 and at branch targets only the address is known; elsewhere the state is
+-- what the instruction above leaves, be it a branch or not
 pub record StatesAlong (code : List ℕ) : Type 0 where
   pub first : valuesAt code 0 ≡ standingAt (addressOf 0) unknownState
   pub target : (j : ℕ) → Reached code j → valuesAt code j ≡ standingAt (addressOf j) unknownState

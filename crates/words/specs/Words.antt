@@ -2,7 +2,9 @@
 use mathlib.Core.List.{List, [], _∷_}
 use Prim.Native.Nat.{ℕ, _+_, _*_, _/_, _%_}
 use Rattle.isa.specs.declared.instruction.Instruction.{Instruction}
-use Rattle.isa.specs.declared.instruction.Instruction.the-variants.{MovImm, CmpImm, And, Eor, Asr, Tst, Neg, Cmp, AddHigh, CmpHigh, MovHigh, Str, Ldr, Strb, Ldrb, AddPc, Branch, Halt}
+use Rattle.isa.specs.declared.instruction.Instruction.the-variants.{MovImm, CmpImm, And, Eor, Asr, Tst, Neg, Cmp}
+use Rattle.isa.specs.declared.instruction.Instruction.the-variants.{AddHigh, CmpHigh, MovHigh, Str, Ldr, Strb, Ldrb}
+use Rattle.isa.specs.declared.instruction.Instruction.the-variants.{AddPc, Branch, Halt}
 use Rattle.isa.specs.declared.decoder.Decoded.{Decoded}
 use Rattle.isa.specs.declared.decoder.Decoded.the-variants.{Defined, Undefined}
 use Rattle.isa.specs.Decode.{entry}
@@ -35,7 +37,8 @@ abbrev pub decodedWord : Decoded → ℕ
 decodedWord (Defined i) = wordOf i
 decodedWord Undefined = 0
 
--- the instruction that a kind and three bytes stand for, by kind from 0; a byte that the kind has no field for says nothing
+-- the instruction that a kind and three bytes stand for, by kind from 0; a byte that the kind has
+-- no field for says nothing
 abbrev pub kinds : ℕ → ℕ → ℕ → List Decoded
 kinds a b c =
     Undefined

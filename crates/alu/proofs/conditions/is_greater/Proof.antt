@@ -9,15 +9,11 @@ use Rattle.alu.proofs.conditions.is_greater.Tie as tie
 
 returns : tie.Need-returns
 returns c =
-    let k = c .before .before .before .args .k in
+    let z = c .before .before .is-zero in
+    let start : tie.Start = search in
+    let f = flagsIn (start .args .k) in
     c .both .ensures
-    ∙ (rw (c .before .before .is-zero .ensures, c .before .is-less .ensures) (ap (λ (t : Bool). not (flagsIn k .z) && t) (twice (Bool·beq (flagsIn k .n) (flagsIn k .v)))))
+    ∙ rw (z .ensures, c .before .is-less .ensures) (ap (λ (t : Bool). not (f .z) && t) (twice (Bool·beq (f .n) (f .v))))
 
 pub is-greater-spec : {M : Type 1} → statement M
-is-greater-spec =
-    tie.close
-    (tie.spec
-    (λ c κs. search needs)
-    (λ c κs. search needs)
-    (λ c κs. search needs)
-    returns)
+is-greater-spec = tie.close (tie.spec (search needs) (search needs) (search needs) returns)

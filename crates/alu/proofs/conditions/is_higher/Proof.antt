@@ -8,10 +8,4 @@ returns : tie.Need-returns
 returns c = c .both .ensures ∙ rw (c .before .before .is-carry .ensures, c .before .is-zero .ensures)
 
 pub is-higher-spec : {M : Type 1} → statement M
-is-higher-spec =
-    tie.close
-    (tie.spec
-    (λ c κs. search needs)
-    (λ c κs. search needs)
-    (λ c κs. search needs)
-    returns)
+is-higher-spec = tie.close (tie.spec (search needs) (search needs) (search needs) returns)

@@ -7,9 +7,4 @@ returns : tie.Need-returns
 returns c = simp (c .before .is-negative .ensures, c .is-overflow .ensures)
 
 pub is-less-spec : {M : Type 1} → statement M
-is-less-spec =
-    tie.close
-    (tie.spec
-    (λ c κs. search needs)
-    (λ c κs. search needs)
-    returns)
+is-less-spec = tie.close (tie.spec (search needs) (search needs) returns)

@@ -8,11 +8,5 @@ returns : tie.Need-returns
 returns c = c .both .ensures ∙ rw (c .before .before .signs-differ .ensures, c .before .signs-differ2 .ensures)
 
 pub is-overflow-spec : {M : Type 1} → statement M
-is-overflow-spec =
-    tie.close
-    (tie.spec
-    (λ c. search needs)
-    (λ c κs. search needs)
-    (λ c κs. search needs)
-    (λ c κs. search needs)
-    returns)
+is-overflow-spec = tie.close (tie.spec
+    (λ c. search needs) (search needs) (search needs) (search needs) returns)

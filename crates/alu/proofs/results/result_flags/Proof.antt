@@ -9,7 +9,4 @@ returns : tie.Need-returns
 returns c = (refl, result-are (c .args .r) (c .args .r) (search needs) refl refl refl)
 
 pub result-flags-spec : {M : Type 1} → statement M
-result-flags-spec =
-    tie.close
-    (tie.spec
-    returns)
+result-flags-spec = tie.close (tie.spec returns)

@@ -10,19 +10,16 @@ use Rattle.alu.proofs.results.shift_flags.Tie as tie
 
 returns : tie.Need-returns
 returns c =
-    let m = c .before .before .before in
+    let carry = c .before .shift-carry in
+    let before = c .before .before .is-carry in
+    let start : tie.Start = search in
     let sum = c .with-carry .ensures in (
       refl,
-      result-are (m .args .r) (shiftOf (m .args .a) (m .args .n)) (search needs) (m .pre)
-          (sum .0 ∙ (c .before .shift-carry .ensures ∙ ap (λ (t : Bool). shiftCarry (m .args .a) (m .args .n) t) (c .before .before .is-carry .ensures)))
-          (ap (λ (low : ℕ). signsDiffer (m .args .k .a) low && signsDiffer (m .args .k .b) low) (sum .1)),
+      result-are (start .args .r) (shiftOf (start .args .a) (start .args .n)) (search needs) (start .pre)
+          (sum .0
+          ∙ (carry .ensures ∙ ap (λ (t : Bool). shiftCarry (start .args .a) (start .args .n) t) (before .ensures)))
+          (ap (λ (low : ℕ). signsDiffer (start .args .k .a) low && signsDiffer (start .args .k .b) low) (sum .1)),
     )
 
 pub shift-flags-spec : {M : Type 1} → statement M
-shift-flags-spec =
-    tie.close
-    (tie.spec
-    (λ c κs. search needs)
-    (λ c κs. search needs)
-    (λ c κs. search needs)
-    returns)
+shift-flags-spec = tie.close (tie.spec (search needs) (search needs) (search needs) returns)

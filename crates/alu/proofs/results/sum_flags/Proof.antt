@@ -10,8 +10,4 @@ returns : tie.Need-returns
 returns c = (refl, result-are (c .args .r) (sumOf (c .args .a) (c .args .b)) (search needs) (c .pre) refl refl)
 
 pub sum-flags-spec : {M : Type 1} → statement M
-sum-flags-spec =
-    tie.close
-    (tie.spec
-    (λ c. search needs)
-    returns)
+sum-flags-spec = tie.close (tie.spec (λ c. search needs) returns)

@@ -14,9 +14,4 @@ returns-2 : tie.Need-returns-2
 returns-2 c = (lt-leb 65536 (c .before .args .sum % 65536) (omega arith) ∙ sym (c .if1 .left), omega arith)
 
 pub with-carry-spec : {M : Type 1} → statement M
-with-carry-spec =
-    tie.close
-    (tie.spec
-    (λ c. search needs)
-    returns
-    returns-2)
+with-carry-spec = tie.close (tie.spec (λ c. search needs) returns returns-2)

@@ -6,14 +6,7 @@ use Rattle.alu.proofs.status.status_in.Tie as tie
 
 returns : tie.Need-returns
 returns c =
-    flags-are (c .before .before .before .is-negative .ensures) (c .before .before .is-zero .ensures) (c .before .is-carry .ensures) (c .is-overflow .ensures)
+    flags-are (search) (search) (search) (search)
 
 pub status-in-spec : {M : Type 1} → statement M
-status-in-spec =
-    tie.close
-    (tie.spec
-    (λ c κs. search needs)
-    (λ c κs. search needs)
-    (λ c κs. search needs)
-    (λ c κs. search needs)
-    returns)
+status-in-spec = tie.close (tie.spec (search needs) (search needs) (search needs) (search needs) returns)

@@ -11,16 +11,7 @@ abbrev μ-loop : tie.MeasureT-loop
 μ-loop file checked n₀ n = 64 - n
 
 pub count-blocks-spec : {M : Type 1} → statement M
-count-blocks-spec =
-    tie.close
-    (tie.spec
-    Inv-loop
-    μ-loop
-    (λ c. search needs)
-    (λ c κs. search needs)
-    (λ c. search needs)
-    (λ c. search needs)
-    (λ c. search needs)
-    (λ c. search needs)
-    (λ c. search needs)
-    (λ c. search needs))
+count-blocks-spec = tie.close (tie.spec
+    Inv-loop μ-loop
+    (search needs) (λ c κs. search needs) (search needs) (search needs) (search needs) (search needs) (search needs)
+    (search needs))

@@ -19,51 +19,57 @@ end s = s .args .base .high + s .args .offset + s .args .size
 abbrev windowEnd : tie.Start → ℕ
 windowEnd s = s .args .layout .«window_start» + s .args .layout .«window_length»
 
+-- the function's entry, from where the data does not start below the window
+abbrev start-of : tie.Else1 → tie.Start
+start-of above = search
+
 returns : tie.Need-returns
 returns c =
-    let s = c .before .before .before .before .before in
-    simp (positive (s .pre), lt-leb _ _ (c .if1 .taken))
+    let start : tie.Start = search in
+    simp (positive (start .pre), lt-leb _ _ (c .if1 .taken))
 
 returns-2 : tie.Need-returns-2
 returns-2 c =
-    let s = c .before .before .before .before .before .before in
-    let past : windowEnd s < end s = omega arith in
-    simp (positive (s .pre), le-leb _ _ (c .before .if1 .left), lt-leb _ _ past)
+    let above = c .before in
+    let past : windowEnd (start-of above) < end (start-of above) = omega arith in
+    simp (positive (start-of above .pre), le-leb _ _ (above .if1 .left), lt-leb _ _ past)
 
 returns-3 : tie.Need-returns-3
 returns-3 c =
-    let s = c .before .before .before .before .before .before .before .before .before in
-    let inside : end s ≤ windowEnd s = omega arith in
-    let few : s .args .base .zeros < 2 = omega arith in
-    simp (positive (s .pre), le-leb _ _ (c .before .before .before .before .if1 .left), le-leb _ _ inside, eq-eqb _ _ (c .before .before .if3 .taken), lt-leb _ _ few)
+    let halfword : tie.Then3 = search in
+    let above : tie.Else1 = search in
+    let inside : end (start-of above) ≤ windowEnd (start-of above) = omega arith in
+    let few : start-of above .args .base .zeros < 2 = omega arith in
+    simp (
+      positive (start-of above .pre),
+      le-leb _ _ (above .if1 .left),
+      le-leb _ _ inside,
+      eq-eqb _ _ (halfword .if3 .taken),
+      lt-leb _ _ few,
+    )
 
 returns-4 : tie.Need-returns-4
 returns-4 c =
-    let s = c .before .before .before .before .before .before .before .before .before in
-    let inside : end s ≤ windowEnd s = omega arith in
-    let enough : 2 ≤ s .args .base .zeros = omega arith in
-    simp (positive (s .pre), le-leb _ _ (c .before .before .before .before .if1 .left), le-leb _ _ inside, eq-eqb _ _ (c .before .before .if3 .taken), le-leb _ _ enough)
+    let halfword : tie.Then3 = search in
+    let above : tie.Else1 = search in
+    let inside : end (start-of above) ≤ windowEnd (start-of above) = omega arith in
+    let enough : 2 ≤ start-of above .args .base .zeros = omega arith in
+    simp (
+      positive (start-of above .pre),
+      le-leb _ _ (above .if1 .left),
+      le-leb _ _ inside,
+      eq-eqb _ _ (halfword .if3 .taken),
+      le-leb _ _ enough,
+    )
 
 returns-5 : tie.Need-returns-5
 returns-5 c =
-    let s = c .before .before .before .before .before .before .before in
-    let inside : end s ≤ windowEnd s = omega arith in
-    simp (positive (s .pre), le-leb _ _ (c .before .before .if1 .left), le-leb _ _ inside, ne-eqb _ _ (c .if3 .left))
+    let above : tie.Else1 = search in
+    let inside : end (start-of above) ≤ windowEnd (start-of above) = omega arith in
+    simp (positive (start-of above .pre), le-leb _ _ (above .if1 .left), le-leb _ _ inside, ne-eqb _ _ (c .if3 .left))
 
 pub check-access-spec : {M : Type 1} → statement M
-check-access-spec =
-    tie.close
-    (tie.spec
-    (λ c. search needs)
-    (λ c. search needs)
-    (λ c. search needs)
-    (λ c. search needs)
-    (λ c. search needs)
-    (λ c. search needs)
-    (λ c. search needs)
-    (λ c. search needs)
-    returns
-    returns-2
-    returns-3
-    returns-4
-    returns-5)
+check-access-spec = tie.close (tie.spec
+    (search needs) (search needs) (search needs) (search needs) (search needs) (search needs) (search needs)
+    (search needs) returns
+    returns-2 returns-3 returns-4 returns-5)

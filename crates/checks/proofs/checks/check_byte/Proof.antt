@@ -8,10 +8,4 @@ returns : tie.Need-returns
 returns c = c .check-access .ensures ∙ simp (c .before .bits .ensures)
 
 pub check-byte-spec : {M : Type 1} → statement M
-check-byte-spec =
-    tie.close
-    (tie.spec
-    (λ c κs. search needs)
-    (λ c. search needs)
-    (λ c κs. search needs)
-    returns)
+check-byte-spec = tie.close (tie.spec (search needs) (search needs) (search needs) returns)

@@ -8,11 +8,4 @@ returns : tie.Need-returns
 returns c = c .check-access .ensures ∙ simp (c .before .bits .ensures)
 
 pub check-halfword-spec : {M : Type 1} → statement M
-check-halfword-spec =
-    tie.close
-    (tie.spec
-    (λ c κs. search needs)
-    (λ c. search needs)
-    (λ c. search needs)
-    (λ c κs. search needs)
-    returns)
+check-halfword-spec = tie.close (tie.spec (search needs) (search needs) (search needs) (search needs) returns)

@@ -4,8 +4,6 @@ use Rattle.checks.proofs.checks.check_last.Statement.{statement}
 use Rattle.checks.proofs.checks.check_last.Tie as tie
 
 pub check-last-spec : {M : Type 1} → statement M
-check-last-spec =
-    tie.close
-    (tie.spec
+check-last-spec = tie.close (tie.spec
     (λ c. simp (le-ltb _ _ (c .if1 .taken)))
     (λ c. simp (lt-ltb _ _ (c .if1 .left))))

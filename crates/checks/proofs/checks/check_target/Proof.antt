@@ -4,8 +4,6 @@ use Rattle.checks.proofs.checks.check_target.Statement.{statement}
 use Rattle.checks.proofs.checks.check_target.Tie as tie
 
 pub check-target-spec : {M : Type 1} → statement M
-check-target-spec =
-    tie.close
-    (tie.spec
+check-target-spec = tie.close (tie.spec
     (λ c. simp (lt-ltb _ _ (c .if1 .taken)))
     (λ c. simp (le-ltb _ _ (c .if1 .left))))

@@ -4,8 +4,6 @@ use Rattle.checks.proofs.checks.check_write.Statement.{statement}
 use Rattle.checks.proofs.checks.check_write.Tie as tie
 
 pub check-write-spec : {M : Type 1} → statement M
-check-write-spec =
-    tie.close
-    (tie.spec
+check-write-spec = tie.close (tie.spec
     (λ c. simp (eq-eqb _ _ (c .if1 .taken)))
     (λ c. simp (ne-eqb _ _ (c .if1 .left))))

@@ -1,167 +1,86 @@
 -- The upper byte tells the condition, and the function of its flags whether it holds.
-use native.Mathlib.Omega.{arith}
-use mathlib.Core.Bool.{not, Bool·beq}
-use mathlib.Core.Path.{_≡_, ap, _∙_}
+use Prim.Native.Nat.{ℕ, _+_, _<_}
+use mathlib.Core.Bool.{Bool, not, Bool·beq}
+use mathlib.Core.Path.{_≡_, sym, ap, _∙_}
 use lib.Dec.{lit<}
 use Rattle.units.specs.Field.{field}
+use Rattle.alu.specs.Alu.{conditionOf}
 use Rattle.alu.specs.Control.{flagsIn}
-use Rattle.cpu.specs.Held.{branchElse}
+use Rattle.alu.specs.Flags.{Flags}
+use Rattle.alu.specs.declared.control.Control.{Control}
+use Rattle.alu.proofs.Turned.{twice, lower, not-greater}
+use Rattle.cpu.specs.declared.held.Executed.{Executed}
+use Rattle.cpu.specs.declared.outcome.Outcome.the-variants.{Completed}
+use Rattle.cpu.specs.Held.{branched, Beside, branchElse}
+use Rattle.cpu.proofs.Access.{Gave}
 use Rattle.cpu.proofs.Dispatch.{is-none}
 use Rattle.cpu.proofs.Formats.{none, branch-arm}
-use Rattle.alu.proofs.Turned.{twice, lower, not-greater}
 use borrow.Author.Needs.{needs}
 use Rattle.cpu.proofs.executor.execute_branch.Statement.{statement}
 use Rattle.cpu.proofs.executor.execute_branch.Tie as tie
 
-returns : tie.Need-returns
-returns c =
-    let m = c .before .before .before .before .before in
-    let byte : field (m .args .h) 8 8 ≡ 208 = omega (arith, c .before .before .before .before .bits .ensures) in
-    branch-arm (m .args .h) (search needs) 0 (lit< tt) byte (m .args .k) _ _ _ (c .before .before .is-zero .ensures) (c .before .branch .ensures) (c .completed .ensures)
+-- the flags
+abbrev flags : tie.After-bits → Flags
+flags asked = flagsIn (asked .before .args .k)
 
-returns-2 : tie.Need-returns-2
-returns-2 c =
-    let m = c .before .before .before .before .before in
-    let byte : field (m .args .h) 8 8 ≡ 209 = omega (arith, c .before .before .before .before .bits .ensures) in
-    branch-arm (m .args .h) (search needs) 1 (lit< tt) byte (m .args .k) _ _ _ (ap not (c .before .before .is-zero2 .ensures)) (c .before .branch2 .ensures) (c .completed2 .ensures)
+-- the arm of the n-th condition: its byte, whether it holds, and what the branch leaves
+arm : (asked : tie.After-bits) (n : ℕ) → n < 14 → asked .bits .result ≡ 208 + n
+    → {test : Bool} {k : Control} {e : Executed} → test ≡ conditionOf n (flags asked)
+    → k ≡ branched test (field (asked .before .args .h) 0 8) (asked .before .args .k) → Gave e k Completed
+    → Beside e (asked .before .args .k) (branchElse (asked .before .args .h))
+arm asked n small byte holds is gave =
+    let start = asked .before in
+    let upper = sym (asked .bits .ensures) ∙ byte in
+    branch-arm (start .args .h) (search needs) n small upper (start .args .k) holds is gave
 
-returns-3 : tie.Need-returns-3
-returns-3 c =
-    let m = c .before .before .before .before .before in
-    let byte : field (m .args .h) 8 8 ≡ 210 = omega (arith, c .before .before .before .before .bits .ensures) in
-    branch-arm (m .args .h) (search needs) 2 (lit< tt) byte (m .args .k) _ _ _ (c .before .before .is-carry .ensures) (c .before .branch3 .ensures) (c .completed3 .ensures)
-
-returns-4 : tie.Need-returns-4
-returns-4 c =
-    let m = c .before .before .before .before .before in
-    let byte : field (m .args .h) 8 8 ≡ 211 = omega (arith, c .before .before .before .before .bits .ensures) in
-    branch-arm (m .args .h) (search needs) 3 (lit< tt) byte (m .args .k) _ _ _ (ap not (c .before .before .is-carry2 .ensures)) (c .before .branch4 .ensures) (c .completed4 .ensures)
-
-returns-5 : tie.Need-returns-5
-returns-5 c =
-    let m = c .before .before .before .before .before in
-    let byte : field (m .args .h) 8 8 ≡ 212 = omega (arith, c .before .before .before .before .bits .ensures) in
-    branch-arm (m .args .h) (search needs) 4 (lit< tt) byte (m .args .k) _ _ _ (c .before .before .is-negative .ensures) (c .before .branch5 .ensures) (c .completed5 .ensures)
-
-returns-6 : tie.Need-returns-6
-returns-6 c =
-    let m = c .before .before .before .before .before in
-    let byte : field (m .args .h) 8 8 ≡ 213 = omega (arith, c .before .before .before .before .bits .ensures) in
-    branch-arm (m .args .h) (search needs) 5 (lit< tt) byte (m .args .k) _ _ _ (ap not (c .before .before .is-negative2 .ensures)) (c .before .branch6 .ensures) (c .completed6 .ensures)
-
-returns-7 : tie.Need-returns-7
-returns-7 c =
-    let m = c .before .before .before .before .before in
-    let byte : field (m .args .h) 8 8 ≡ 214 = omega (arith, c .before .before .before .before .bits .ensures) in
-    branch-arm (m .args .h) (search needs) 6 (lit< tt) byte (m .args .k) _ _ _ (c .before .before .is-overflow .ensures) (c .before .branch7 .ensures) (c .completed7 .ensures)
-
-returns-8 : tie.Need-returns-8
-returns-8 c =
-    let m = c .before .before .before .before .before in
-    let byte : field (m .args .h) 8 8 ≡ 215 = omega (arith, c .before .before .before .before .bits .ensures) in
-    branch-arm (m .args .h) (search needs) 7 (lit< tt) byte (m .args .k) _ _ _ (ap not (c .before .before .is-overflow2 .ensures)) (c .before .branch8 .ensures) (c .completed8 .ensures)
-
-returns-9 : tie.Need-returns-9
-returns-9 c =
-    let m = c .before .before .before .before .before in
-    let byte : field (m .args .h) 8 8 ≡ 216 = omega (arith, c .before .before .before .before .bits .ensures) in
-    branch-arm (m .args .h) (search needs) 8 (lit< tt) byte (m .args .k) _ _ _ (c .before .before .is-higher .ensures) (c .before .branch9 .ensures) (c .completed9 .ensures)
-
-returns-10 : tie.Need-returns-10
-returns-10 c =
-    let m = c .before .before .before .before .before in
-    let byte : field (m .args .h) 8 8 ≡ 217 = omega (arith, c .before .before .before .before .bits .ensures) in
-    branch-arm (m .args .h) (search needs) 9 (lit< tt) byte (m .args .k) _ _ _ (ap not (c .before .before .is-higher2 .ensures) ∙ lower (flagsIn (m .args .k) .c) (flagsIn (m .args .k) .z)) (c .before .branch10 .ensures) (c .completed10 .ensures)
-
-returns-11 : tie.Need-returns-11
-returns-11 c =
-    let m = c .before .before .before .before .before in
-    let byte : field (m .args .h) 8 8 ≡ 218 = omega (arith, c .before .before .before .before .bits .ensures) in
-    branch-arm (m .args .h) (search needs) 10 (lit< tt) byte (m .args .k) _ _ _ (ap not (c .before .before .is-less .ensures) ∙ twice (Bool·beq (flagsIn (m .args .k) .n) (flagsIn (m .args .k) .v))) (c .before .branch11 .ensures) (c .completed11 .ensures)
-
-returns-12 : tie.Need-returns-12
-returns-12 c =
-    let m = c .before .before .before .before .before in
-    let byte : field (m .args .h) 8 8 ≡ 219 = omega (arith, c .before .before .before .before .bits .ensures) in
-    branch-arm (m .args .h) (search needs) 11 (lit< tt) byte (m .args .k) _ _ _ (c .before .before .is-less2 .ensures) (c .before .branch12 .ensures) (c .completed12 .ensures)
-
-returns-13 : tie.Need-returns-13
-returns-13 c =
-    let m = c .before .before .before .before .before in
-    let byte : field (m .args .h) 8 8 ≡ 220 = omega (arith, c .before .before .before .before .bits .ensures) in
-    branch-arm (m .args .h) (search needs) 12 (lit< tt) byte (m .args .k) _ _ _ (c .before .before .is-greater .ensures) (c .before .branch13 .ensures) (c .completed13 .ensures)
-
-returns-14 : tie.Need-returns-14
-returns-14 c =
-    let m = c .before .before .before .before .before in
-    let byte : field (m .args .h) 8 8 ≡ 221 = omega (arith, c .before .before .before .before .bits .ensures) in
-    branch-arm (m .args .h) (search needs) 13 (lit< tt) byte (m .args .k) _ _ _ (ap not (c .before .before .is-greater2 .ensures) ∙ not-greater (flagsIn (m .args .k) .z) (Bool·beq (flagsIn (m .args .k) .n) (flagsIn (m .args .k) .v))) (c .before .branch14 .ensures) (c .completed14 .ensures)
-
+-- no condition has this byte
 returns-15 : tie.Need-returns-15
 returns-15 c =
-    let m = c .before .before .before in
-    none (branchElse (m .args .h)) _ _ (is-none (m .args .h) (search needs) (c .before .before .bits .result) (c .before .before .bits .ensures) (c .before .match .rest)) (c .stopped .ensures)
+    let rest = c .before in
+    let asked = rest .before in
+    let h = asked .before .args .h in
+    none (branchElse h) _ _
+    (is-none h (search needs) (asked .bits .result) (asked .bits .ensures) (rest .match .rest))
+    (c .stopped .ensures)
 
 pub execute-branch-spec : {M : Type 1} → statement M
-execute-branch-spec =
-    tie.close
-    (tie.spec
-    (λ c κs. search needs)
-    (λ c κs. search needs)
-    (λ c κs. search needs)
-    (λ c κs. search needs)
-    (λ c κs. search needs)
-    (λ c κs. search needs)
-    (λ c κs. search needs)
-    (λ c κs. search needs)
-    (λ c κs. search needs)
-    (λ c κs. search needs)
-    (λ c κs. search needs)
-    (λ c κs. search needs)
-    (λ c κs. search needs)
-    (λ c κs. search needs)
-    (λ c κs. search needs)
-    (λ c κs. search needs)
-    (λ c κs. search needs)
-    (λ c κs. search needs)
-    (λ c κs. search needs)
-    (λ c κs. search needs)
-    (λ c κs. search needs)
-    (λ c κs. search needs)
-    (λ c κs. search needs)
-    (λ c κs. search needs)
-    (λ c κs. search needs)
-    (λ c κs. search needs)
-    (λ c κs. search needs)
-    (λ c κs. search needs)
-    (λ c κs. search needs)
-    (λ c κs. search needs)
-    (λ c κs. search needs)
-    (λ c κs. search needs)
-    (λ c κs. search needs)
-    (λ c κs. search needs)
-    (λ c κs. search needs)
-    (λ c κs. search needs)
-    (λ c κs. search needs)
-    (λ c κs. search needs)
-    (λ c κs. search needs)
-    (λ c κs. search needs)
-    (λ c κs. search needs)
-    (λ c κs. search needs)
-    (λ c κs. search needs)
-    (λ c κs. search needs)
-    returns
-    returns-2
-    returns-3
-    returns-4
-    returns-5
-    returns-6
-    returns-7
-    returns-8
-    returns-9
-    returns-10
-    returns-11
-    returns-12
-    returns-13
-    returns-14
+execute-branch-spec = tie.close (tie.spec
+    (search needs) (search needs) (search needs) (search needs) (search needs) (search needs) (search needs)
+    (search needs) (search needs) (search needs) (search needs) (search needs) (search needs) (search needs)
+    (search needs) (search needs) (search needs) (search needs) (search needs) (search needs) (search needs)
+    (search needs) (search needs) (search needs) (search needs) (search needs) (search needs) (search needs)
+    (search needs) (search needs) (search needs) (search needs) (search needs) (search needs) (search needs)
+    (search needs) (search needs) (search needs) (search needs) (search needs) (search needs) (search needs)
+    (search needs) (search needs)
+    (λ c. arm (search) 0 (lit< tt) (search) (c .before .before .is-zero .ensures) (c .before .branch .ensures) (search))
+    (λ c. arm (search) 1 (lit< tt) (search) (ap not (c .before .before .is-zero2 .ensures))
+    (c .before .branch2 .ensures) (search))
+    (λ c. arm (search) 2 (lit< tt) (search) (c .before .before .is-carry .ensures)
+    (c .before .branch3 .ensures) (search))
+    (λ c. arm (search) 3 (lit< tt) (search) (ap not (c .before .before .is-carry2 .ensures))
+    (c .before .branch4 .ensures) (search))
+    (λ c. arm (search) 4 (lit< tt) (search) (c .before .before .is-negative .ensures)
+    (c .before .branch5 .ensures) (search))
+    (λ c. arm (search) 5 (lit< tt) (search) (ap not (c .before .before .is-negative2 .ensures))
+    (c .before .branch6 .ensures) (search))
+    (λ c. arm (search) 6 (lit< tt) (search) (c .before .before .is-overflow .ensures)
+    (c .before .branch7 .ensures) (search))
+    (λ c. arm (search) 7 (lit< tt) (search) (ap not (c .before .before .is-overflow2 .ensures))
+    (c .before .branch8 .ensures) (search))
+    (λ c. arm (search) 8 (lit< tt) (search) (c .before .before .is-higher .ensures)
+    (c .before .branch9 .ensures) (search))
+    (λ c. arm (search) 9 (lit< tt) (search)
+    (ap not (c .before .before .is-higher2 .ensures) ∙ lower (flags (search) .c) (flags (search) .z))
+    (c .before .branch10 .ensures) (search))
+    (λ c. arm (search) 10 (lit< tt) (search)
+    (ap not (c .before .before .is-less .ensures) ∙ twice (Bool·beq (flags (search) .n) (flags (search) .v)))
+    (c .before .branch11 .ensures) (search))
+    (λ c. arm (search) 11 (lit< tt) (search) (c .before .before .is-less2 .ensures)
+    (c .before .branch12 .ensures) (search))
+    (λ c. arm (search) 12 (lit< tt) (search) (c .before .before .is-greater .ensures)
+    (c .before .branch13 .ensures) (search))
+    (λ c. arm (search) 13 (lit< tt) (search)
+    (ap not (c .before .before .is-greater2 .ensures)
+    ∙ not-greater (flags (search) .z) (Bool·beq (flags (search) .n) (flags (search) .v)))
+    (c .before .branch14 .ensures) (search))
     returns-15)

@@ -1,120 +1,97 @@
 -- The top five bits tell the format, and with it the other fields that decoding looks at.
-use native.Mathlib.Omega.{arith}
-use mathlib.Core.Path.{_≡_, refl, _∙_}
-use lib.Dec.{lit<}
+use Prim.Native.Nat.{ℕ, _/_, _<_}
+use mathlib.Core.Bool.{false}
+use mathlib.Core.List.{List}
+use mathlib.Core.Path.{_≡_, refl, sym, _∙_}
+use lib.Dec.{lit<, eqb}
 use Rattle.units.specs.Field.{field}
-use Rattle.isa.specs.Decode.{haltOf}
-use Rattle.isa.specs.declared.decoder.Decoded.the-variants.{Defined}
-use Rattle.isa.specs.declared.instruction.Instruction.the-variants.{MovImm, CmpImm, Str, Ldr, Strb, Ldrb, AddPc}
+use Rattle.isa.specs.Decode.{decodeOf}
+use Rattle.isa.specs.declared.decoder.Decoded.{Decoded}
 use Rattle.isa.proofs.Formats.{is-halt, is-imm, is-memory, is-add-pc}
+use Rattle.alu.specs.declared.control.Control.{Control}
+use Rattle.cpu.specs.declared.held.Executed.{Executed}
+use Rattle.cpu.specs.declared.machine.Machine.{Machine}
+use Rattle.cpu.specs.declared.outcome.Outcome.the-variants.{Completed}
 use Rattle.cpu.specs.Step.{executeOf}
-use Rattle.cpu.specs.Held.{branchElse, otherElse}
+use Rattle.cpu.specs.Held.{held, Told, toldDecoded, Holds, Leads, Beside, otherElse}
+use Rattle.cpu.proofs.Access.{Gave}
 use Rattle.cpu.proofs.Dispatch.{as-decoded, is-branch-or-none}
-use Rattle.cpu.proofs.Formats.{leads-as, arm}
+use Rattle.cpu.proofs.Formats.{quiet, leads-as, arm}
 use borrow.Author.Needs.{needs}
 use Rattle.cpu.proofs.executor.execute_other.Statement.{statement}
 use Rattle.cpu.proofs.executor.execute_other.Tie as tie
 
-returns : tie.Need-returns
-returns c =
-    let m = c .before .before .before .before in
-    let top : field (m .args .h) 11 5 ≡ 0 = omega (arith, c .before .before .bits .ensures) in
-    let means = as-decoded (m .args .h) (search needs) 0 top (λ z. omega (arith, z)) ∙ is-halt (m .args .h) (search needs) top in
-    leads-as (otherElse (m .args .h)) (haltOf (m .args .h)) _ _ _ _ _ (m .args .step) _ _ means (c .execute-halt .ensures (m .args .regs .now) (m .args .memory .now) (m .args .log .now) (m .args .step) (m .pre .0))
+module _ (asked : tie.After-bits) where
+  abbrev start : tie.Start
+  start = asked .before .before
 
-returns-2 : tie.Need-returns-2
-unfolding executeOf
-returns-2 c =
-    let m = c .before .before .before .before .before .before in
-    let top : field (m .args .h) 11 5 ≡ 4 = omega (arith, c .before .before .before .before .bits .ensures) in
-    let means = as-decoded (m .args .h) (search needs) 4 top (λ z. omega (arith, z)) ∙ is-imm (m .args .h) (search needs) 0 (lit< tt) top in
-    arm (otherElse (m .args .h)) (MovImm (field (m .args .h) 8 3) (field (m .args .h) 0 8)) _ _ _ (m .args .step) _ (c .before .mov-imm .result) _ _ means refl (c .completed .ensures) (c .before .mov-imm .ensures)
+  abbrev memory : List ℕ
+  memory = start .args .memory .now
 
-returns-3 : tie.Need-returns-3
-unfolding executeOf
-returns-3 c =
-    let m = c .before .before .before .before .before .before in
-    let top : field (m .args .h) 11 5 ≡ 5 = omega (arith, c .before .before .before .before .bits .ensures) in
-    let means = as-decoded (m .args .h) (search needs) 5 top (λ z. omega (arith, z)) ∙ is-imm (m .args .h) (search needs) 1 (lit< tt) top in
-    arm (otherElse (m .args .h)) (CmpImm (field (m .args .h) 8 3) (field (m .args .h) 0 8)) _ _ _ (m .args .step) _ (c .before .cmp-imm .result) _ _ means refl (c .completed2 .ensures) (c .before .cmp-imm .ensures)
+  abbrev log : List ℕ
+  log = start .args .log .now
 
-returns-4 : tie.Need-returns-4
-unfolding executeOf
-returns-4 c =
-    let asked = c .before .before .before .before .before .before .before in
-    let m = asked .before .before in
-    let top : field (m .args .h) 11 5 ≡ 12 = omega (arith, asked .bits .ensures) in
-    let means = as-decoded (m .args .h) (search needs) 12 top (λ z. omega (arith, z)) ∙ is-memory (m .args .h) (search needs) 0 (lit< tt) top in
-    leads-as (otherElse (m .args .h)) (Defined (Str (field (m .args .h) 6 5) (field (m .args .h) 3 3) (field (m .args .h) 0 3))) _ _ (m .args .memory .now) _ (m .args .log .now) (m .args .step) _ _ means (c .before .before .str .ensures)
+  abbrev first : Machine
+  first = held (start .args .regs .now) (start .args .k)
 
-returns-5 : tie.Need-returns-5
-unfolding executeOf
-returns-5 c =
-    let asked = c .before .before .before .before .before in
-    let m = asked .before .before in
-    let top : field (m .args .h) 11 5 ≡ 13 = omega (arith, asked .bits .ensures) in
-    let means = as-decoded (m .args .h) (search needs) 13 top (λ z. omega (arith, z)) ∙ is-memory (m .args .h) (search needs) 1 (lit< tt) top in
-    leads-as (otherElse (m .args .h)) (Defined (Ldr (field (m .args .h) 6 5) (field (m .args .h) 3 3) (field (m .args .h) 0 3))) _ _ (m .args .memory .now) _ (m .args .log .now) (m .args .step) _ _ means (c .ldr .ensures)
+  -- what a halfword of this meaning would do
+  abbrev told : Decoded → Told
+  told d = toldDecoded d first memory (start .args .step) log
 
-returns-6 : tie.Need-returns-6
-unfolding executeOf
-returns-6 c =
-    let asked = c .before .before .before .before .before .before .before in
-    let m = asked .before .before in
-    let top : field (m .args .h) 11 5 ≡ 14 = omega (arith, asked .bits .ensures) in
-    let means = as-decoded (m .args .h) (search needs) 14 top (λ z. omega (arith, z)) ∙ is-memory (m .args .h) (search needs) 2 (lit< tt) top in
-    leads-as (otherElse (m .args .h)) (Defined (Strb (field (m .args .h) 6 5) (field (m .args .h) 3 3) (field (m .args .h) 0 3))) _ _ (m .args .memory .now) _ (m .args .log .now) (m .args .step) _ _ means (c .before .before .strb .ensures)
+  abbrev Means : Decoded → Type 0
+  Means known = otherElse (start .args .h) ≡ known
 
-returns-7 : tie.Need-returns-7
-unfolding executeOf
-returns-7 c =
-    let asked = c .before .before .before .before .before in
-    let m = asked .before .before in
-    let top : field (m .args .h) 11 5 ≡ 15 = omega (arith, asked .bits .ensures) in
-    let means = as-decoded (m .args .h) (search needs) 15 top (λ z. omega (arith, z)) ∙ is-memory (m .args .h) (search needs) 3 (lit< tt) top in
-    leads-as (otherElse (m .args .h)) (Defined (Ldrb (field (m .args .h) 6 5) (field (m .args .h) 3 3) (field (m .args .h) 0 3))) _ _ (m .args .memory .now) _ (m .args .log .now) (m .args .step) _ _ means (c .ldrb .ensures)
+  -- what the top five bits tell, where they are no operation's on registers
+  means : (n : ℕ) → asked .bits .result ≡ n → eqb (n / 4) 2 ≡ false → {known : Decoded}
+      → (start .args .h < 65536 → field (start .args .h) 11 5 ≡ n → decodeOf (start .args .h) ≡ known) → Means known
+  means n is other decoded =
+      let top = sym (asked .bits .ensures) ∙ is in
+      as-decoded (start .args .h) n top other ∙ decoded (search needs) top
 
-returns-8 : tie.Need-returns-8
-unfolding executeOf
-returns-8 c =
-    let m = c .before .before .before .before .before .before in
-    let top : field (m .args .h) 11 5 ≡ 20 = omega (arith, c .before .before .before .before .bits .ensures) in
-    let means = as-decoded (m .args .h) (search needs) 20 top (λ z. omega (arith, z)) ∙ is-add-pc (m .args .h) (search needs) top in
-    arm (otherElse (m .args .h)) (AddPc (field (m .args .h) 8 3) (field (m .args .h) 0 8)) _ _ _ (m .args .step) _ (c .before .add-pc .result) _ _ means refl (c .completed3 .ensures) (c .before .add-pc .ensures)
+  -- an instruction on registers, one on memory, and what leaves both alone
+  registers : {known : Decoded} {regs : List ℕ} {e : Executed} {k : Control} {m : Machine} → Means known
+      → told known ≡ quiet m memory log → Holds regs k m → Gave e k Completed
+      → Leads regs e memory log (told (otherElse (start .args .h)))
+  registers is does holds gave = arm first memory log (start .args .step) is does gave holds
 
+  accesses : {known : Decoded} {regs memory′ log′ : List ℕ} {e : Executed} → Means known
+      → Leads regs e memory′ log′ (told known) → Leads regs e memory′ log′ (told (otherElse (start .args .h)))
+  accesses is leads = leads-as first memory log (start .args .step) is leads
+
+  beside : {known : Decoded} {e : Executed} → Means known → Beside e (start .args .k) known
+      → Leads (start .args .regs .now) e memory log (told (otherElse (start .args .h)))
+  beside is does = accesses is (does (start .args .regs .now) memory log (start .args .step) (start .pre .0))
+
+-- none of these
 returns-9 : tie.Need-returns-9
 returns-9 c =
-    let m = c .before .before .before .before in
-    let means = is-branch-or-none (m .args .h) (search needs) (c .before .before .bits .result) (c .before .before .bits .ensures) (c .before .match .rest) in
-    leads-as (otherElse (m .args .h)) (branchElse (m .args .h)) _ _ _ _ _ (m .args .step) _ _ means (c .execute-branch .ensures (m .args .regs .now) (m .args .memory .now) (m .args .log .now) (m .args .step) (m .pre .0))
+    let rest = c .before in
+    let asked = rest .before in
+    beside asked
+    (is-branch-or-none _ (search needs) (asked .bits .result) (asked .bits .ensures) (rest .match .rest))
+    (c .execute-branch .ensures)
 
 pub execute-other-spec : {M : Type 1} → statement M
-execute-other-spec =
-    tie.close
-    (tie.spec
-    (λ c κs. search needs)
-    (λ c κs. search needs)
-    (λ c κs. search needs)
-    (λ c κs. search needs)
-    (λ c κs. search needs)
-    (λ c κs. search needs)
-    (λ c κs. search needs)
-    (λ c κs. search needs)
-    (λ c κs. search needs)
-    (λ c κs. search needs)
-    (λ c κs. search needs)
-    (λ c κs. search needs)
-    (λ c κs. search needs)
-    returns
-    returns-2
-    returns-3
+unfolding executeOf
+execute-other-spec = tie.close (tie.spec
+    (search needs) (search needs) (search needs) (search needs) (search needs) (search needs) (search needs)
+    (search needs) (search needs) (search needs) (search needs) (search needs) (search needs)
+    (λ c. beside (search) (means (search) 0 (search) refl (is-halt _)) (c .execute-halt .ensures))
+    (λ c. registers (search) (means (search) 4 (search) refl (λ fits. is-imm _ fits 0 (lit< tt))) refl
+    (c .before .mov-imm .ensures) (search))
+    (λ c. registers (search) (means (search) 5 (search) refl (λ fits. is-imm _ fits 1 (lit< tt))) refl
+    (c .before .cmp-imm .ensures) (search))
     (λ c. search needs)
-    returns-4
+    (λ c. accesses (search) (means (search) 12 (search) refl (λ fits. is-memory _ fits 0 (lit< tt)))
+    (c .before .before .str .ensures))
     (λ c. search needs)
-    returns-5
+    (λ c. accesses (search) (means (search) 13 (search) refl (λ fits. is-memory _ fits 1 (lit< tt)))
+    (c .ldr .ensures))
     (λ c. search needs)
-    returns-6
+    (λ c. accesses (search) (means (search) 14 (search) refl (λ fits. is-memory _ fits 2 (lit< tt)))
+    (c .before .before .strb .ensures))
     (λ c. search needs)
-    returns-7
-    returns-8
+    (λ c. accesses (search) (means (search) 15 (search) refl (λ fits. is-memory _ fits 3 (lit< tt)))
+    (c .ldrb .ensures))
+    (λ c. registers (search) (means (search) 20 (search) refl (is-add-pc _)) refl (c .before .add-pc .ensures) (search))
     returns-9)

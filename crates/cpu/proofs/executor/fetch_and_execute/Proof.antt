@@ -8,34 +8,25 @@ use Rattle.cpu.proofs.executor.fetch_and_execute.Tie as tie
 returns : tie.Need-returns
 unfolding stepTraffic
 returns c =
-    let m = c .before .before .before .before in
+    let start : tie.Start = search in
     let leads =
-    odd (m .args .regs .now) (m .args .memory .now) (m .args .log .now) (m .args .k) (m .args .step) (m .pre .0) (m .pre .1)
-    (c .stopped .result) (c .before .if1 .taken) (c .stopped .ensures)
-    in
+    odd (start .args .regs .now) (start .args .memory .now) (start .args .log .now) (start .args .k) (start .args .step)
+    (start .pre .0) (start .pre .1) (c .before .if1 .taken) (c .stopped .ensures) in
     (leads .result, leads .logs, leads .whole)
 
 returns-2 : tie.Need-returns-2
 unfolding stepTraffic
 returns-2 c =
-    let done = c .before .before .execute in
-    let fetched = c .before .before .before .before .before .before in
-    let asked = fetched .before .before .before in
-    let m = asked .before .before .before in
+    let fetched : tie.After-halfword-at = search in
+    let asked : tie.Else1 = search in
+    let start : tie.Start = search in
     let leads =
-    even (m .args .regs .now) (m .args .memory .now) (m .args .log .now) (m .args .k) (m .args .step) (m .pre .0) (m .pre .1) _ _ _ _
-    (done .result) (asked .if1 .left) (fetched .halfword-at .ensures) (done .ensures)
-    in
+    even (start .args .regs .now) (start .args .memory .now) (start .args .log .now) (start .args .k)
+    (start .args .step) (start .pre .0) (start .pre .1) (asked .if1 .left) (fetched .halfword-at .ensures)
+    (c .before .before .execute .ensures) in
     (leads .result, leads .logs, leads .whole)
 
 pub fetch-and-execute-spec : {M : Type 1} → statement M
-fetch-and-execute-spec =
-    tie.close
-    (tie.spec
-    (λ c κs. search needs)
-    returns
-    (λ c. search needs)
-    (λ c κs. search needs)
-    (λ c κs. search needs)
-    (λ c. search needs)
+fetch-and-execute-spec = tie.close (tie.spec
+    (search needs) returns (λ c. search needs) (search needs) (search needs) (λ c. search needs)
     returns-2)

@@ -5,9 +5,6 @@ use Rattle.cpu.proofs.held.advance.Statement.{statement}
 use Rattle.cpu.proofs.held.advance.Tie as tie
 
 pub advance-spec : {M : Type 1} → statement M
-advance-spec =
-    tie.close
-    (tie.spec
-    (λ c κs. search needs)
-    (λ c κs. search needs)
+advance-spec = tie.close (tie.spec
+    (search needs) (search needs)
     (λ c. c .move-to .ensures ∙ rw (c .before .wrapping-add-u16 .ensures)))

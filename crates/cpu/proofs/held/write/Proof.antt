@@ -6,21 +6,16 @@ use Rattle.cpu.proofs.held.write.Tie as tie
 
 returns : tie.Need-returns
 returns c =
-    let m = c .before .before in
-    write-pc-holds (m .args .regs .now) (m .args .k) (c .move-to .result) (m .pre .0) (m .args .rd) (m .args .x) (c .before .if1 .taken) (c .move-to .ensures)
+    let start : tie.Start = search in
+    write-pc-holds (start .args .regs .now) (start .args .k) (start .args .rd) (start .args .x) (start .pre .0)
+    (c .before .if1 .taken) (c .move-to .ensures)
 
 returns-2 : tie.Need-returns-2
 returns-2 c =
-    let m = c .before .before in
-    write-holds (m .args .regs .now) (m .args .k) (c .advance .result) (m .pre .0) (m .args .rd) (m .args .x) (c .before .if1 .left) (c .advance .ensures)
+    let start : tie.Start = search in
+    write-holds (start .args .regs .now) (start .args .k) (start .args .rd) (start .args .x) (start .pre .0)
+    (c .before .if1 .left) (c .advance .ensures)
 
 pub write-spec : {M : Type 1} → statement M
-write-spec =
-    tie.close
-    (tie.spec
-    (λ c κs. search needs)
-    (λ c. search needs)
-    (λ c. search needs)
-    (λ c κs. search needs)
-    returns
-    returns-2)
+write-spec = tie.close (tie.spec
+    (search needs) (λ c. search needs) (λ c. search needs) (search needs) returns returns-2)

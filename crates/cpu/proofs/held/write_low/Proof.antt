@@ -7,15 +7,9 @@ use Rattle.cpu.proofs.held.write_low.Tie as tie
 
 returns : tie.Need-returns
 returns c =
-    let m = c .before in
-    write-holds (m .args .regs .now) (m .args .k) (c .advance .result) (m .pre .0) (m .args .rd) (m .args .x)
-    (λ e. omega (arith, e, m .pre .1)) (c .advance .ensures)
+    let start = c .before in
+    write-holds (start .args .regs .now) (start .args .k) (start .args .rd) (start .args .x) (start .pre .0)
+    (λ e. omega arith) (c .advance .ensures)
 
 pub write-low-spec : {M : Type 1} → statement M
-write-low-spec =
-    tie.close
-    (tie.spec
-    (λ c. search needs)
-    (λ c. search needs)
-    (λ c κs. search needs)
-    returns)
+write-low-spec = tie.close (tie.spec (λ c. search needs) (λ c. search needs) (search needs) returns)

@@ -8,16 +8,12 @@ use Rattle.cpu.proofs.instructions.add_pc.Tie as tie
 returns : tie.Need-returns
 unfolding addPcOf
 returns c =
-    let m = c .before .before .before .before .before in
-    let p = pc-is (m .args .regs .now) (m .args .k .pc) (m .pre) in
-    simp p (simp (c .before .bits2 .ensures, c .before .before .before .pc-sum .ensures, c .before .before .before .before .bits .ensures, p) at (c .write-low .ensures))
+    let summed : tie.After-pc-sum = search in
+    let imm : tie.After-bits = search in
+    let start : tie.Start = search in
+    let pc = pc-is (start .args .regs .now) (start .args .k .pc) (start .pre) in
+    simp pc (simp (c .before .bits2 .ensures, summed .pc-sum .ensures, imm .bits .ensures, pc) at
+    (c .write-low .ensures))
 
 pub add-pc-spec : {M : Type 1} → statement M
-add-pc-spec =
-    tie.close
-    (tie.spec
-    (λ c κs. search needs)
-    (λ c κs. search needs)
-    (λ c κs. search needs)
-    (λ c κs. search needs)
-    returns)
+add-pc-spec = tie.close (tie.spec (search needs) (search needs) (search needs) (search needs) returns)

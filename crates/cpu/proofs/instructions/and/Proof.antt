@@ -1,8 +1,6 @@
 -- Both registers are read as the array has them.
-use native.Mathlib.Omega.{arith}
-use Rattle.units.specs.Field.{field}
 use Rattle.cpu.specs.Step.{andOf}
-use Rattle.cpu.proofs.Ends.{low-is}
+use Rattle.cpu.proofs.Ends.{low-fields}
 use borrow.Author.Needs.{needs}
 use Rattle.cpu.proofs.instructions.and.Statement.{statement}
 use Rattle.cpu.proofs.instructions.and.Tie as tie
@@ -10,23 +8,14 @@ use Rattle.cpu.proofs.instructions.and.Tie as tie
 returns : tie.Need-returns
 unfolding andOf
 returns c =
-    let m = c .before .before .before .before .before .before .before in
-    let low = low-is (m .args .regs .now) (m .args .k .pc) (m .pre) in
-    simp (low (field (m .args .h) 0 3) (omega arith), low (field (m .args .h) 3 3) (omega arith))
-    (simp (c .before .bits3 .ensures, c .before .before .before .before .bits2 .ensures, c .before .before .before .before .before .before .bits .ensures) at (c .leave .ensures))
+    let rs : tie.After-bits2 = search in
+    let rd : tie.After-bits = search in
+    let start : tie.Start = search in
+    let low = low-fields (start .args .regs .now) (start .args .k .pc) (start .args .h) in
+    simp (low .0, low .1)
+    (simp (c .before .bits3 .ensures, rs .bits2 .ensures, rd .bits .ensures) at (c .leave .ensures))
 
 pub and-spec : {M : Type 1} → statement M
-and-spec =
-    tie.close
-    (tie.spec
-    (λ c κs. search needs)
-    (λ c. search needs)
-    (λ c. search needs)
-    (λ c. search needs)
-    (λ c κs. search needs)
-    (λ c. search needs)
-    (λ c. search needs)
-    (λ c. search needs)
-    (λ c κs. search needs)
-    (λ c κs. search needs)
-    returns)
+and-spec = tie.close (tie.spec
+    (search needs) (λ c. search needs) (λ c. search needs) (λ c. search needs) (search needs)
+    (λ c. search needs) (λ c. search needs) (λ c. search needs) (search needs) (search needs) returns)

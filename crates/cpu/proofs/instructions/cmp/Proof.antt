@@ -1,8 +1,6 @@
 -- Only the flags of the difference are kept.
-use native.Mathlib.Omega.{arith}
-use Rattle.units.specs.Field.{field}
 use Rattle.cpu.specs.Step.{cmpOf}
-use Rattle.cpu.proofs.Ends.{low-is, advance-holds}
+use Rattle.cpu.proofs.Ends.{low-fields, advance-holds}
 use borrow.Author.Needs.{needs}
 use Rattle.cpu.proofs.instructions.cmp.Statement.{statement}
 use Rattle.cpu.proofs.instructions.cmp.Tie as tie
@@ -10,23 +8,16 @@ use Rattle.cpu.proofs.instructions.cmp.Tie as tie
 returns : tie.Need-returns
 unfolding cmpOf
 returns c =
-    let m = c .before .before .before .before .before .before in
-    let low = low-is (m .args .regs .now) (m .args .k .pc) (m .pre) in
-    simp (low (field (m .args .h) 0 3) (omega arith), low (field (m .args .h) 3 3) (omega arith))
-    (simp (c .before .before .before .bits2 .ensures, c .before .before .before .before .before .bits .ensures) at (advance-holds (m .args .regs .now) (m .args .k) (c .advance .result) (m .pre) (c .before .compare .result) _ (c .advance .ensures) (c .before .compare .ensures)))
+    let rs : tie.After-bits2 = search in
+    let rd : tie.After-bits = search in
+    let start : tie.Start = search in
+    let low = low-fields (start .args .regs .now) (start .args .k .pc) (start .args .h) in
+    simp (low .0, low .1)
+    (simp (rs .bits2 .ensures, rd .bits .ensures) at
+    (advance-holds (start .args .regs .now) (c .before .compare .result) (start .pre)
+    (c .advance .ensures) (c .before .compare .ensures)))
 
 pub cmp-spec : {M : Type 1} → statement M
-cmp-spec =
-    tie.close
-    (tie.spec
-    (λ c κs. search needs)
-    (λ c. search needs)
-    (λ c. search needs)
-    (λ c. search needs)
-    (λ c κs. search needs)
-    (λ c. search needs)
-    (λ c. search needs)
-    (λ c. search needs)
-    (λ c κs. search needs)
-    (λ c κs. search needs)
-    returns)
+cmp-spec = tie.close (tie.spec
+    (search needs) (λ c. search needs) (λ c. search needs) (λ c. search needs) (search needs)
+    (λ c. search needs) (λ c. search needs) (λ c. search needs) (search needs) (search needs) returns)

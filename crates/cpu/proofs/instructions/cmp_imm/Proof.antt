@@ -10,20 +10,15 @@ use Rattle.cpu.proofs.instructions.cmp_imm.Tie as tie
 returns : tie.Need-returns
 unfolding cmpImmOf
 returns c =
-    let m = c .before .before .before .before .before in
-    simp (low-is (m .args .regs .now) (m .args .k .pc) (m .pre) (field (m .args .h) 8 3) (omega arith))
-    (simp (c .before .before .before .before .bits .ensures, c .before .before .bits2 .ensures) at (advance-holds (m .args .regs .now) (m .args .k) (c .advance .result) (m .pre) (c .before .compare .result) _ (c .advance .ensures) (c .before .compare .ensures)))
+    let rd : tie.After-bits = search in
+    let start : tie.Start = search in
+    let low = low-is (start .args .regs .now) (start .args .k .pc) (field (start .args .h) 8 3) (omega arith) in
+    simp low
+    (simp (rd .bits .ensures, c .before .before .bits2 .ensures) at
+    (advance-holds (start .args .regs .now) (c .before .compare .result) (start .pre)
+    (c .advance .ensures) (c .before .compare .ensures)))
 
 pub cmp-imm-spec : {M : Type 1} → statement M
-cmp-imm-spec =
-    tie.close
-    (tie.spec
-    (λ c κs. search needs)
-    (λ c. search needs)
-    (λ c. search needs)
-    (λ c. search needs)
-    (λ c κs. search needs)
-    (λ c. search needs)
-    (λ c κs. search needs)
-    (λ c κs. search needs)
-    returns)
+cmp-imm-spec = tie.close (tie.spec
+    (search needs) (λ c. search needs) (λ c. search needs) (λ c. search needs) (search needs)
+    (λ c. search needs) (search needs) (search needs) returns)

@@ -8,12 +8,5 @@ returns : tie.Need-returns
 returns c = c .wrapping-add-u16 .ensures ∙ simp (c .before .before .bits .ensures)
 
 pub effective-address-spec : {M : Type 1} → statement M
-effective-address-spec =
-    tie.close
-    (tie.spec
-    (λ c κs. search needs)
-    (λ c. search needs)
-    (λ c. search needs)
-    (λ c. search needs)
-    (λ c κs. search needs)
-    returns)
+effective-address-spec = tie.close (tie.spec
+    (search needs) (λ c. search needs) (λ c. search needs) (λ c. search needs) (search needs) returns)

@@ -9,11 +9,4 @@ unfolding movImmOf
 returns c = simp (c .before .before .bits .ensures, c .before .bits2 .ensures) at (c .leave .ensures)
 
 pub mov-imm-spec : {M : Type 1} → statement M
-mov-imm-spec =
-    tie.close
-    (tie.spec
-    (λ c κs. search needs)
-    (λ c κs. search needs)
-    (λ c. search needs)
-    (λ c κs. search needs)
-    returns)
+mov-imm-spec = tie.close (tie.spec (search needs) (search needs) (λ c. search needs) (search needs) returns)

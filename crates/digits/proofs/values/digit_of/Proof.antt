@@ -6,15 +6,8 @@ use Rattle.digits.proofs.values.digit_of.Statement.{statement}
 use Rattle.digits.proofs.values.digit_of.Tie as tie
 
 pub digit-of-spec : {M : Type 1} → statement M
-digit-of-spec =
-    tie.close
-    (tie.spec
-    (λ c. search needs)
-    (λ c. search needs)
-    (λ c. decimal _ (omega arith) (omega arith))
-    (λ c. upper _ (omega arith) (omega arith))
-    (λ c. lower _ (omega arith) (omega arith))
-    (λ c. below _ (omega arith))
-    (λ c. after-decimal _ (omega arith) (omega arith))
-    (λ c. after-upper _ (omega arith) (omega arith))
-    (λ c. after-lower _ (omega arith)))
+digit-of-spec = tie.close (tie.spec
+    (search needs) (search needs) (λ c. decimal _ (omega arith) (omega arith))
+    (λ c. upper _ (omega arith) (omega arith)) (λ c. lower _ (omega arith) (omega arith))
+    (λ c. below _ (omega arith)) (λ c. after-decimal _ (omega arith) (omega arith))
+    (λ c. after-upper _ (omega arith) (omega arith)) (λ c. after-lower _ (omega arith)))

@@ -18,13 +18,5 @@ unfolding grownBy
 returns-3 c = simp (le-ltb _ _ (c .before .if1 .left), c .if2 .left)
 
 pub grow-spec : {M : Type 1} → statement M
-grow-spec =
-    tie.close
-    (tie.spec
-    returns
-    (λ c. search needs)
-    (λ c. search needs)
-    (λ c. search needs)
-    (λ c. search needs)
-    returns-2
-    returns-3)
+grow-spec = tie.close (tie.spec
+    returns (search needs) (search needs) (search needs) (search needs) returns-2 returns-3)

@@ -11,27 +11,21 @@ use Rattle.domain.proofs.transfer.add.Tie as tie
 returns : tie.Need-returns
 unfolding addOf
 returns c =
-    let s = c .before .before .before .before .before .args in
-    let p : largest < s .a .high + s .b .high = omega arith in
-    c .interval .ensures ∙ sym (simp (lt-ltb _ _ p, ← c .before .before .before .before .min-u8 .ensures))
+    let counted : tie.After-min-u8 = search in
+    let start = counted .before in
+    let past : largest < start .args .a .high + start .args .b .high = omega arith in
+    c .interval .ensures ∙ sym (simp (lt-ltb _ _ past, ← counted .min-u8 .ensures))
 
 returns-2 : tie.Need-returns-2
 unfolding addOf
 returns-2 c =
-    let s = c .before .before .before .before .before .before .before .before .args in
-    let p : s .a .high + s .b .high ≤ largest = omega arith in
-    c .interval2 .ensures
-    ∙ sym (simp (le-ltb _ _ p, ← c .before .before .before .saturating-add .ensures, ← c .before .before .before .before .before .before .before .min-u8 .ensures))
+    let added : tie.After-saturating-add = search in
+    let counted : tie.After-min-u8 = search in
+    let start = counted .before in
+    let fits : start .args .a .high + start .args .b .high ≤ largest = omega arith in
+    c .interval2 .ensures ∙ sym (simp (le-ltb _ _ fits, ← added .saturating-add .ensures, ← counted .min-u8 .ensures))
 
 pub add-spec : {M : Type 1} → statement M
-add-spec =
-    tie.close
-    (tie.spec
-    (λ c κs. search needs)
-    (λ c. search needs)
-    (λ c κs. search needs)
-    (λ c κs. search needs)
-    (λ c. search needs)
-    (λ c κs. search needs)
-    returns
+add-spec = tie.close (tie.spec
+    (search needs) (search needs) (search needs) (search needs) (search needs) (search needs) returns
     returns-2)

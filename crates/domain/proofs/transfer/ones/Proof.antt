@@ -15,7 +15,8 @@ shl-result : tie.Need-shl-result
 shl-result c = search needs
 
 sub-result : tie.Need-sub-result
-sub-result c = rw (shl-one (16 - leadingZeros 16 (c .args .x)) (omega arith)) (pow-pos (16 - leadingZeros 16 (c .args .x)))
+sub-result c =
+    rw (shl-one (16 - leadingZeros 16 (c .args .x)) (omega arith)) (pow-pos (16 - leadingZeros 16 (c .args .x)))
 
 cast-result : tie.Need-cast-result
 cast-result c =
@@ -26,5 +27,4 @@ returns : tie.Need-returns
 returns c = rw (shl-one (16 - leadingZeros 16 (c .args .x)) (omega arith))
 
 pub ones-spec : {M : Type 1} → statement M
-ones-spec = tie.close (tie.spec
-    sub-bits shl-result sub-result cast-result returns)
+ones-spec = tie.close (tie.spec sub-bits shl-result sub-result cast-result returns)

@@ -18,5 +18,4 @@ unfolding intervalOf
 returns-2 c = simp (ne-eqb _ _ (c .if1 .left))
 
 pub interval-spec : {M : Type 1} → statement M
-interval-spec = tie.close (tie.spec
-    cast-t7 returns returns-2)
+interval-spec = tie.close (tie.spec cast-t7 returns returns-2)

@@ -8,20 +8,12 @@ returns : tie.Need-returns
 returns c =
     let told = c .before in
     let ended = told .before in
-    let ran = ended .before .before .before .before .run in
-    run-number (ran .result .machine) (ran .last .1 .0) _ _ _ _ (told .with-traffic .ensures) (ran .ensures .1) _ (ran .result .count) _ (ended .run-number .ensures)
-    (ran .ensures .0)
+    let over : tie.After-run = search in
+    let ran = over .run in
+    run-number (ran .result .machine) (ran .last .1 .0) _ _ _ _ (told .with-traffic .ensures) (ran .ensures .1)
+    _ (ran .result .count) _ (ended .run-number .ensures) (ran .ensures .0)
 
 pub run-numbered-spec : {M : Type 1} → statement M
-run-numbered-spec =
-    tie.close
-    (tie.spec
-    (λ c κs. search needs)
-    (λ c κs. search needs)
-    (λ c κs. search needs)
-    (λ c. search needs)
-    (λ c. search needs)
-    (λ c. search needs)
-    (λ c. search needs)
-    (λ c. search needs)
-    returns)
+run-numbered-spec = tie.close (tie.spec
+    (search needs) (search needs) (search needs) (search needs) (search needs) (search needs) (search needs)
+    (search needs) returns)

@@ -8,16 +8,10 @@ use Rattle.image.proofs.block.block_part.Tie as tie
 
 returns : tie.Need-returns
 returns c =
-    let e = part-is-block (c .before .args .file .now) (c .before .args .k) in
-    (e, ap length e ∙ block-length (c .before .args .file .now) (c .before .args .k) (c .before .pre))
+    let start = c .before in
+    let is = part-is-block (start .args .file .now) (start .args .k) in
+    (is, ap length is ∙ block-length _ _ (start .pre))
 
 pub block-part-spec : {M : Type 1} → statement M
-block-part-spec =
-    tie.close
-    (tie.spec
-    (λ c. search needs)
-    (λ c. search needs)
-    (λ c. search needs)
-    (λ c. search needs)
-    (λ c. search needs)
-    returns)
+block-part-spec = tie.close (tie.spec
+    (search needs) (search needs) (search needs) (search needs) (search needs) returns)

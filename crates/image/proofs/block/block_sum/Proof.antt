@@ -21,28 +21,19 @@ loop-holds c = (search needs, refl)
 
 loop-again : tie.Need-loop-again Inv-loop μ-loop
 loop-again c =
-    let at = c .before .before .before .loop in (
-      search needs,
-      c .add-to-sum .ensures ∙ ap₂ addedTo (at .inv .1) (c .before .field .ensures) ∙ down-next _ (at .j) 256 (omega arith) (omega arith),
-    )
+    let head : tie.At-loop Inv-loop μ-loop = search in
+    let at = head .loop in
+    let added = c .add-to-sum .ensures ∙ ap₂ addedTo (at .inv .1) (c .before .field .ensures) in
+    (search needs, added ∙ down-next _ (at .j) 256 (omega arith) (omega arith))
 
 returns : tie.Need-returns Inv-loop μ-loop
 returns c =
     let at = c .before .loop in
-    let block = c .before .before .before .args .block .now in
+    let start : tie.Start Inv-loop μ-loop = search in
     let all : at .j ≡ 0 = omega arith in
-    at .inv .1 ∙ ap (sumFromBack block) all ∙ down-below _ _
+    at .inv .1 ∙ ap (sumFromBack (start .args .block .now)) all ∙ down-below _ _
 
 pub block-sum-spec : {M : Type 1} → statement M
-block-sum-spec =
-    tie.close
-    (tie.spec
-    Inv-loop
-    μ-loop
-    loop-holds
-    (λ c. search needs)
-    (λ c κs. search needs)
-    (λ c κs. search needs)
-    (λ c. search needs)
-    loop-again
-    returns)
+block-sum-spec = tie.close (tie.spec
+    Inv-loop μ-loop
+    loop-holds (search needs) (search needs) (search needs) (search needs) loop-again returns)

@@ -17,5 +17,4 @@ unfolding check2
 returns-3 c = simp (eq-eqb _ _ (c .before .if1 .left), le-leb _ _ (c .if2 .left))
 
 pub has-whole-blocks-spec : {M : Type 1} → statement M
-has-whole-blocks-spec = tie.close (tie.spec
-    returns returns-2 returns-3)
+has-whole-blocks-spec = tie.close (tie.spec returns returns-2 returns-3)

@@ -8,4 +8,4 @@ returns : tie.Need-returns
 returns c first is = same-window _ first _ _ (c .window-word .ensures) is
 
 pub has-window-spec : {M : Type 1} → statement M
-has-window-spec = tie.close (tie.spec (λ c κs. search needs) returns)
+has-window-spec = tie.close (tie.spec (search needs) returns)

@@ -12,5 +12,4 @@ unfolding check4
 returns c = ap (λ (h : ℕ). eqb h 0) (c .block-sum .ensures)
 
 pub is-balanced-spec : {M : Type 1} → statement M
-is-balanced-spec = tie.close (tie.spec
-    (λ c κs. search needs) returns)
+is-balanced-spec = tie.close (tie.spec (search needs) returns)

@@ -12,5 +12,4 @@ unfolding check3
 returns c = ap (λ (h : ℕ). eqb h 53441) (c .field .ensures)
 
 pub is-marked-spec : {M : Type 1} → statement M
-is-marked-spec = tie.close (tie.spec
-    (λ c κs. search needs) returns)
+is-marked-spec = tie.close (tie.spec (search needs) returns)

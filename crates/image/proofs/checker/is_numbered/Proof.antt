@@ -16,5 +16,4 @@ returns-2 c =
     simp (ne-eqb _ _ (c .if1 .left), ne-eqb _ _ (λ q. c .if1 .left (c .before .field .ensures ∙ q)))
 
 pub is-numbered-spec : {M : Type 1} → statement M
-is-numbered-spec = tie.close (tie.spec
-    (λ c κs. search needs) (λ c κs. search needs) returns returns-2)
+is-numbered-spec = tie.close (tie.spec (search needs) (search needs) returns returns-2)

@@ -1,7 +1,7 @@
 -- After n turns what was put together is 0 where the first n unused halfwords are.
 use mathlib.Core.Path.{_≡_, refl, ap, _∙_}
 use borrow.Author.Needs.{needs}
-use Prim.Native.Nat.{_-_, _≤_}
+use Prim.Native.Nat.{_+_, _-_, _≤_}
 use native.Mathlib.Numerals.{add-one}
 use native.Mathlib.Omega.{arith}
 use lib.Dec.{eqb}
@@ -22,28 +22,22 @@ unfolding unusedZero
 loop-holds c = (search needs, refl)
 
 loop-again : tie.Need-loop-again Inv-loop μ-loop
-loop-again c = (
-  search needs,
-  rw add-one (zero-more _ _ _ (c .before .before .loop .all) _ (c .before .before .loop .inv .1) (c .field .ensures ∙ ap (halfword (c .before .before .before .before .args .block .now)) (omega arith))),
-)
+loop-again c =
+    let head : tie.At-loop Inv-loop μ-loop = search in
+    let start : tie.Start Inv-loop μ-loop = search in
+    let place : 6 + start .args .used + head .loop .n ≡ 6 + (start .args .used + head .loop .n) = omega arith in
+    let next = c .field .ensures ∙ ap (halfword (start .args .block .now)) place in
+    (search needs, rw add-one (zero-more _ _ _ (head .loop .all) _ (search) next))
 
 returns : tie.Need-returns Inv-loop μ-loop
 returns c =
-    let e : c .before .loop .n ≡ 249 - c .before .before .before .args .used = omega arith in
-    c .before .loop .inv .1 ∙ ap (unusedZero (c .before .before .before .args .block .now) (c .before .before .before .args .used)) e
+    let at = c .before .loop in
+    let start : tie.Start Inv-loop μ-loop = search in
+    let all : at .n ≡ 249 - start .args .used = omega arith in
+    at .inv .1 ∙ ap (unusedZero (start .args .block .now) (start .args .used)) all
 
 pub is-unused-zero-spec : {M : Type 1} → statement M
-is-unused-zero-spec =
-    tie.close
-    (tie.spec
-    Inv-loop
-    μ-loop
-    loop-holds
-    (λ c. search needs)
-    (λ c. search needs)
-    (λ c. search needs)
-    (λ c κs. search needs)
-    (λ c. search needs)
-    (λ c. search needs)
-    loop-again
-    returns)
+is-unused-zero-spec = tie.close (tie.spec
+    Inv-loop μ-loop
+    loop-holds (search needs) (search needs) (search needs) (search needs) (search needs) (search needs)
+    loop-again returns)

@@ -13,5 +13,4 @@ returns-3 : tie.Need-returns-3
 returns-3 c = simp (c .if1 .left)
 
 pub is-used-right-spec : {M : Type 1} → statement M
-is-used-right-spec = tie.close (tie.spec
-    returns returns-2 returns-3)
+is-used-right-spec = tie.close (tie.spec returns returns-2 returns-3)

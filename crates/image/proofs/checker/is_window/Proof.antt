@@ -15,16 +15,33 @@ returns-2 c = simp (eq-eqb _ _ (c .before .if1 .left), ne-eqb _ _ (c .if2 .taken
 
 returns-3 : tie.Need-returns-3
 unfolding check8
-returns-3 c = simp (eq-eqb _ _ (c .before .before .if1 .left), eq-eqb _ _ (c .before .if2 .left), lt-leb _ _ (c .if3 .taken))
+returns-3 c =
+    let aligned = c .before in
+    simp (eq-eqb _ _ (aligned .before .if1 .left), eq-eqb _ _ (aligned .if2 .left), lt-leb _ _ (c .if3 .taken))
 
 returns-4 : tie.Need-returns-4
 unfolding check8
-returns-4 c = simp (eq-eqb _ _ (c .before .before .before .if1 .left), eq-eqb _ _ (c .before .before .if2 .left), le-leb _ _ (c .before .if3 .left), lt-leb _ _ (c .if4 .taken))
+returns-4 c =
+    let not-empty = c .before in
+    let aligned = not-empty .before in
+    simp (
+      eq-eqb _ _ (aligned .before .if1 .left),
+      eq-eqb _ _ (aligned .if2 .left),
+      le-leb _ _ (not-empty .if3 .left),
+      lt-leb _ _ (c .if4 .taken),
+    )
 
 returns-5 : tie.Need-returns-5
 unfolding check8
-returns-5 c = simp (eq-eqb _ _ (c .before .before .before .if1 .left), eq-eqb _ _ (c .before .before .if2 .left), le-leb _ _ (c .before .if3 .left), le-leb _ _ (c .if4 .left))
+returns-5 c =
+    let not-empty = c .before in
+    let aligned = not-empty .before in
+    simp (
+      eq-eqb _ _ (aligned .before .if1 .left),
+      eq-eqb _ _ (aligned .if2 .left),
+      le-leb _ _ (not-empty .if3 .left),
+      le-leb _ _ (c .if4 .left),
+    )
 
 pub is-window-spec : {M : Type 1} → statement M
-is-window-spec = tie.close (tie.spec
-    returns returns-2 returns-3 returns-4 (λ c. search needs) returns-5)
+is-window-spec = tie.close (tie.spec returns returns-2 returns-3 returns-4 (search needs) returns-5)

@@ -8,39 +8,24 @@ use Rattle.image.proofs.Verdicts.{last-used-most, layout-is}
 use Rattle.image.proofs.checker.read_layout.Statement.{statement}
 use Rattle.image.proofs.checker.read_layout.Tie as tie
 
+-- the used count
+most : (c : tie.After-field) → c .field .result ≤ 249
+most c = search last-used-most
+
 cast-t9 : tie.Need-cast-t9
-cast-t9 c =
-    let m = c .before .before .before .before in
-    let most : c .field .result ≤ 249 =
-    last-used-most (m .args .file .now) (m .args .blocks) _ (c .field .result) (m .pre .0) (m .pre .1) (m .pre .3) (c .before .block-part2 .ensures .0) (c .field .ensures) in
-    omega arith
+cast-t9 c = let few = most c in omega arith
 
 returns : tie.Need-returns
 returns c =
-    let m = c .before .before .before .before .before .before .before in
-    let last = c .before .before .before .before .block-part2 in
-    let used = c .before .before .before .field in
-    let most : used .result ≤ 249 =
-    last-used-most (m .args .file .now) (m .args .blocks) _ (used .result) (m .pre .0) (m .pre .1) (m .pre .3) (last .ensures .0) (used .ensures) in
-    let end : c .before .before .byte-address .result .0 ≡ 2 * (249 * (m .args .blocks - 1) + used .result) =
-    ap (λ (a : ByteAddress). a .0) (c .before .before .byte-address .ensures) ∙ omega (arith, most) in
-    layout-is (m .args .file .now) (m .args .blocks) _ _ _ _ _ _ end (m .pre .0) (last .ensures .0) (c .before .before .before .before .before .block-part .ensures .0)
-    (used .ensures) (c .before .field2 .ensures) (c .field3 .ensures)
+    let ended : tie.After-byte-address = search in
+    let counted = ended .before in
+    let start : tie.Start = search in
+    let few = most counted in
+    let end : ended .byte-address .result .0 ≡ 2 * (249 * (start .args .blocks - 1) + counted .field .result) =
+    ap (λ (a : ByteAddress). a .0) (ended .byte-address .ensures) ∙ omega arith in
+    search layout-is
 
 pub read-layout-spec : {M : Type 1} → statement M
-read-layout-spec =
-    tie.close
-    (tie.spec
-    (λ c. search needs)
-    (λ c. search needs)
-    (λ c κs. search needs)
-    (λ c κs. search needs)
-    (λ c κs. search needs)
-    (λ c. search needs)
-    (λ c. search needs)
-    (λ c. search needs)
-    cast-t9
-    (λ c κs. search needs)
-    (λ c κs. search needs)
-    (λ c κs. search needs)
-    returns)
+read-layout-spec = tie.close (tie.spec
+    (search needs) (search needs) (search needs) (search needs) (search needs) (search needs)
+    (search needs) (search needs) cast-t9 (search needs) (search needs) (search needs) returns)

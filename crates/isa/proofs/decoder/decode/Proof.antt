@@ -1,30 +1,33 @@
 -- The top three bits pick the format.
-use native.Mathlib.Omega.{arith}
-use Rattle.units.specs.Field.{field}
 use mathlib.Core.Path.{_≡_}
-use Prim.Native.Nat.{zero-le}
-use Prim.Native.Nat.{_≤_}
-use Rattle.isa.proofs.Table.{entry-past, skip}
+use Prim.Native.Nat.{ℕ, _≤_}
+use Rattle.isa.specs.declared.decoder.Decoded.{Decoded}
+use Rattle.isa.specs.declared.decoder.Decoded.the-variants.{Undefined}
+use Rattle.isa.specs.Decode.{entry, table, decodeOf}
+use Rattle.isa.proofs.Table.{arm, no-arm, past}
 use borrow.Author.Needs.{needs}
 use Rattle.isa.proofs.decoder.decode.Statement.{statement}
 use Rattle.isa.proofs.decoder.decode.Tie as tie
 
+-- at the match on the top three bits
+module _ (c : tie.After-bits) where
+  abbrev h : ℕ
+  h = c .before .args .h
+
+  picks : (k : ℕ) {d : Decoded} → c .bits .result ≡ k → d ≡ entry (table h) k → d ≡ decodeOf h
+  picks k = arm (table h) k (c .bits .ensures)
+
+  none : 7 ≤ c .bits .result → Undefined ≡ decodeOf h
+  none = no-arm (table h) (c .bits .ensures)
+
 pub decode-spec : {M : Type 1} → statement M
-decode-spec =
-    tie.close
-    (tie.spec
-    (λ c κs. search needs)
-    (λ c κs. search needs)
-    (λ c κs. search needs)
-    (λ c κs. search needs)
-    (λ c κs. search needs)
-    (λ c κs. search needs)
-    (λ c κs. search needs)
-    (λ c. let e : field (c .before .before .before .args .h) 13 3 ≡ 0 = omega arith in simp e (c .decode-halt .ensures))
-    (λ c. let e : field (c .before .before .before .args .h) 13 3 ≡ 1 = omega arith in simp e (c .decode-imm .ensures))
-    (λ c. let e : field (c .before .before .before .args .h) 13 3 ≡ 2 = omega arith in simp e (c .decode-registers .ensures))
-    (λ c. let e : field (c .before .before .before .args .h) 13 3 ≡ 3 = omega arith in simp e (c .decode-memory .ensures))
-    (λ c. let e : field (c .before .before .args .h) 13 3 ≡ 4 = omega arith in simp e)
-    (λ c. let e : field (c .before .before .before .args .h) 13 3 ≡ 5 = omega arith in simp e (c .decode-add-pc .ensures))
-    (λ c. let e : field (c .before .before .before .args .h) 13 3 ≡ 6 = omega arith in simp e (c .decode-branch .ensures))
-    (λ c. let m = c .match .rest in let q : 7 ≤ c .before .bits .result = skip 6 (skip 5 (skip 4 (skip 3 (skip 2 (skip 1 (skip 0 zero-le (m .0 .0 .0 .0 .0 .0 .1)) (m .0 .0 .0 .0 .0 .1)) (m .0 .0 .0 .0 .1)) (m .0 .0 .0 .1)) (m .0 .0 .1)) (m .0 .1)) (m .1) in let p : 7 ≤ field (c .before .before .args .h) 13 3 = rw (c .before .bits .ensures) at q in simp entry-past))
+decode-spec = tie.close (tie.spec
+    (search needs) (search needs) (search needs) (search needs) (search needs) (search needs) (search needs)
+    (λ c. picks (c .before .before) 0 (search) (search))
+    (λ c. picks (c .before .before) 1 (search) (search))
+    (λ c. picks (c .before .before) 2 (search) (search))
+    (λ c. picks (c .before .before) 3 (search) (search))
+    (λ c. picks (c .before) 4 (search) (search))
+    (λ c. picks (c .before .before) 5 (search) (search))
+    (λ c. picks (c .before .before) 6 (search) (search))
+    (λ c. none (c .before) (past _ 7 _ (c .match .rest))))

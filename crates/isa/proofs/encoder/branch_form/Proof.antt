@@ -1,18 +1,22 @@
--- The fields share no bit, so that `|` adds them.
+-- A condition that is none is refused; else the fields are joined.
 use native.Mathlib.Omega.{arith}
 use mathlib.Core.Path.{refl, ap}
-use Prim.Native.Nat.{_*_, _%_, _<_, _≤_}
+use Prim.Native.Nat.{_<_}
 use borrow.Author.Tests.{lt-ltb, le-ltb}
-use Rattle.units.proofs.Or.{low, top}
-use Rattle.isa.specs.declared.encoder.Encoded.the-variants.{Halfword}
 use borrow.Author.Needs.{needs}
+use Rattle.isa.specs.declared.encoder.Encoded.the-variants.{Halfword}
+use Rattle.isa.proofs.Joined.{byte-joined}
 use Rattle.isa.proofs.encoder.branch_form.Statement.{statement}
 use Rattle.isa.proofs.encoder.branch_form.Tie as tie
 
+returns : tie.Need-returns
+returns c = let large = c .before .if1 .taken in simp le-ltb (search)
+
+returns-2 : tie.Need-returns-2
+returns-2 c =
+    let cond = c .if1 .left in
+    let offset : c .before .args .offset < 256 = omega arith in
+    simp lt-ltb (ap Halfword (byte-joined 0xd000 (c .before .args .cond) _ refl (omega arith) offset))
+
 pub branch-form-spec : {M : Type 1} → statement M
-branch-form-spec =
-    tie.close
-    (tie.spec
-    (λ c κs. search needs)
-    (λ c. let a = c .before .before .args in let q : 14 ≤ a .cond = omega arith in simp (le-ltb _ _ q) (c .no-instruction .ensures))
-    (λ c. let a = c .before .args in let p0 : a .cond < 14 = omega arith in let p1 : a .offset < 256 = omega arith in simp (lt-ltb _ _ p0, lt-ltb _ _ p1) (ap Halfword (omega (arith, top 12 0xd000 (low 8 {x = a .cond * 256 % 65536} (a .offset) refl (omega arith) (omega arith)) (omega arith) (omega arith))))))
+branch-form-spec = tie.close (tie.spec (search needs) returns returns-2)

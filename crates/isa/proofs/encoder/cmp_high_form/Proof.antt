@@ -7,11 +7,17 @@ use borrow.Author.Needs.{needs}
 use Rattle.isa.proofs.encoder.cmp_high_form.Statement.{statement}
 use Rattle.isa.proofs.encoder.cmp_high_form.Tie as tie
 
+returns : tie.Need-returns
+returns c =
+    let start : tie.Start = search in
+    let low : max (start .args .rs) (start .args .rd) ≤ 7 = omega arith in
+    simp le-ltb (search)
+
+returns-2 : tie.Need-returns-2
+returns-2 c =
+    let a = c .before .before .args in
+    let high : 7 < max (a .rs) (a .rd) = ⊎-elim (λ w. omega arith) (λ w. omega arith) (c .before .if1 .came) in
+    simp lt-ltb (search)
+
 pub cmp-high-form-spec : {M : Type 1} → statement M
-cmp-high-form-spec =
-    tie.close
-    (tie.spec
-    (λ c κs. search needs)
-    (λ c. let a = c .before .before .before .args in let q : max (a .rs) (a .rd) ≤ 7 = omega arith in simp (le-ltb _ _ q) (c .no-instruction .ensures))
-    (λ c κs. search needs)
-    (λ c. let a = c .before .before .args in let q : 7 < max (a .rs) (a .rd) = ⊎-elim (λ w. omega arith) (λ w. omega arith) (c .before .if1 .came) in simp (lt-ltb _ _ q) (c .high-form .ensures)))
+cmp-high-form-spec = tie.close (tie.spec (search needs) returns (search needs) returns-2)

@@ -8,19 +8,12 @@ returns c =
     let window = c .before in
     let start = window .before in
     let code = start .before in
-    let word = code .before in (
-      c .put .ensures .0 _ (window .«put-number3» .ensures .0 _ (start .«put-number2» .ensures .0 _ (code .put-number .ensures .0 _ (word .line-of .ensures .0)))),
-      search needs,
-    )
+    let word = code .before in
+    let with-code = code .put-number .ensures .adds _ (word .line-of .ensures .is) in
+    let with-start = start .put-number2 .ensures .adds _ with-code in
+    let with-window = window .put-number3 .ensures .adds _ with-start in
+    (c .put .ensures .adds _ with-window, search needs)
 
 pub fit-line-spec : {M : Type 1} → statement M
-fit-line-spec =
-    tie.close
-    (tie.spec
-    (λ c. search needs)
-    (λ c κs. search needs)
-    (λ c κs. search needs)
-    (λ c κs. search needs)
-    (λ c κs. search needs)
-    (λ c κs. search needs)
-    returns)
+fit-line-spec = tie.close (tie.spec
+    (search needs) (search needs) (search needs) (search needs) (search needs) (search needs) returns)

@@ -8,20 +8,12 @@ returns c =
     let whole = c .before in
     let place = whole .before in
     let number = place .before in
-    let word = number .before .before in (
-      rw (← place .place-number .ensures) (c .put .ensures .0 _ (whole .«put-number2» .ensures .0 _ (number .put-number .ensures .0 _ (word .line-of .ensures .0)))),
-      search needs,
-    )
+    let word : tie.After-line-of = search in
+    let with-number = number .put-number .ensures .adds _ (word .line-of .ensures .is) in
+    let with-place = whole .put-number2 .ensures .adds _ with-number in
+    (rw (← place .place-number .ensures) (c .put .ensures .adds _ with-place), search needs)
 
 pub refused-line-spec : {M : Type 1} → statement M
-refused-line-spec =
-    tie.close
-    (tie.spec
-    (λ c. search needs)
-    (λ c κs. search needs)
-    (λ c. search needs)
-    (λ c κs. search needs)
-    (λ c κs. search needs)
-    (λ c κs. search needs)
-    (λ c κs. search needs)
+refused-line-spec = tie.close (tie.spec
+    (search needs) (search needs) (search needs) (search needs) (search needs) (search needs) (search needs)
     returns)

@@ -22,28 +22,23 @@ loop-holds c = (search needs, refl, refl)
 
 loop-again : tie.Need-loop-again Inv-loop μ-loop
 loop-again c =
-    let b = c .before .before .before in
-    let w = b .before .before .args .word .now in
-    let i = b .loop .i in
-    let h : i < length w = search needs in (
+    let head : tie.At-loop Inv-loop μ-loop = search in
+    let word = head .before .before .args .word .now in
+    let i = head .loop .i in
+    let more : i < length word = search needs in (
       search needs,
       search needs,
-      c .put .ensures .0 (take i w) (b .loop .inv .2) ∙ ap lineOf (rw add-one (sym (take-suc w i 0 h))),
+      c .put .ensures .adds (take i word) (head .loop .inv .2) ∙ ap lineOf (rw add-one (sym (take-suc word i 0 more))),
     )
 
 returns : tie.Need-returns Inv-loop μ-loop
-returns c = (c .before .loop .inv .2 ∙ ap lineOf (take-all (c .before .loop .i) (c .before .before .before .args .word .now) (omega arith)), search needs)
+returns c =
+    let head = c .before in
+    let start : tie.Start Inv-loop μ-loop = search in
+    let all = take-all (head .loop .i) (start .args .word .now) (omega arith) in
+    record { is = head .loop .inv .2 ∙ ap lineOf all; long = search needs }
 
 pub line-of-spec : {M : Type 1} → statement M
-line-of-spec =
-    tie.close
-    (tie.spec
-    Inv-loop
-    μ-loop
-    loop-holds
-    (λ c. search needs)
-    (λ c κs. search needs)
-    (λ c. search needs)
-    (λ c. search needs)
-    loop-again
-    returns)
+line-of-spec = tie.close (tie.spec
+    Inv-loop μ-loop
+    loop-holds (search needs) (search needs) (search needs) (search needs) loop-again returns)

@@ -6,8 +6,9 @@ use Rattle.lines.proofs.writer.put.Statement.{statement}
 use Rattle.lines.proofs.writer.put.Tie as tie
 
 returns : tie.Need-returns
-returns c = (put-adds (c .before .args .line) (c .before .args .byte) (c .before .pre), refl)
+returns c =
+    let start = c .before in
+    record { adds = put-adds (start .args .line) (start .args .byte) (start .pre); long = refl }
 
 pub put-spec : {M : Type 1} → statement M
-put-spec = tie.close (tie.spec
-    (λ c. search needs) (λ c. search needs) returns)
+put-spec = tie.close (tie.spec (search needs) (search needs) returns)

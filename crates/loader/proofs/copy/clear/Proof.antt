@@ -10,27 +10,37 @@ use Rattle.loader.proofs.copy.clear.Statement.{statement}
 use Rattle.loader.proofs.copy.clear.Tie as tie
 
 abbrev Inv-loop : tie.InvT-loop
-Inv-loop part₀ i₀ part i = (length part ≡ length part₀) × ((i ≤ length part₀) × (part ≡ replicate i 0 ++ drop i part₀))
+Inv-loop part₀ i₀ part i =
+    (length part ≡ length part₀) × (i ≤ length part₀) × (part ≡ replicate i 0 ++ drop i part₀)
 
 abbrev μ-loop : tie.MeasureT-loop
 μ-loop part₀ i₀ part i = length part₀ - i
 
 -- at the end nothing is left as it was
-filled : (l part : List ℕ) (i : ℕ) → length l ≤ i → i ≤ length l → part ≡ replicate i 0 ++ drop i l → part ≡ replicate (length l) 0
+filled : (l part : List ℕ) (i : ℕ) → length l ≤ i → i ≤ length l → part ≡ replicate i 0 ++ drop i l
+    → part ≡ replicate (length l) 0
 filled l part i h k e =
-    let q : i ≡ length l = omega arith in
-    e ∙ ap (λ (x : List ℕ). replicate i 0 ++ x) (drop-of-length-le l h) ∙ append-nil (replicate i 0) ∙ ap (λ (n : ℕ). replicate n 0) q
+    let all : i ≡ length l = omega arith in
+    e
+    ∙ ap (λ (x : List ℕ). replicate i 0 ++ x) (drop-of-length-le l h)
+    ∙ append-nil (replicate i 0)
+    ∙ ap (λ (n : ℕ). replicate n 0) all
+
+loop-again : tie.Need-loop-again Inv-loop μ-loop
+loop-again c =
+    let at = c .before .loop in
+    let start : tie.Start Inv-loop μ-loop = search in (
+      length-set (at .part) (at .i) 0 ∙ at .inv .0,
+      search needs,
+      ap (λ (l : List ℕ). set l (at .i) 0) (at .inv .2) ∙ fill-more (at .i) 0 (start .args .part .now) (search needs),
+    )
+
+returns : tie.Need-returns Inv-loop μ-loop
+returns c =
+    let head = c .before in
+    filled (head .before .args .part .now) _ (head .loop .i) (omega arith) (omega arith) (search)
 
 pub clear-spec : {M : Type 1} → statement M
-clear-spec =
-    tie.close
-    (tie.spec
-    Inv-loop
-    μ-loop
-    (λ c. search needs)
-    (λ c. search needs)
-    (λ c. search needs)
-    (λ c. search needs)
-    (λ c. (length-set (c .before .loop .part) (c .before .loop .i) 0 ∙ c .before .loop .inv .0, (search needs, ap (λ (l : List ℕ). set l (c .before .loop .i) 0) (c .before .loop .inv .1 .1) ∙ fill-more (c .before .loop .i) 0 (c .before .before .args .part .now) (search needs))))
-    (λ c. search needs)
-    (λ c. filled (c .before .before .args .part .now) (c .before .loop .part) (c .before .loop .i) (omega arith) (omega arith) (c .before .loop .inv .1 .1)))
+clear-spec = tie.close (tie.spec
+    Inv-loop μ-loop
+    (search needs) (search needs) (search needs) (search needs) loop-again (search needs) returns)

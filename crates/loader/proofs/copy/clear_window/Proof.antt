@@ -16,16 +16,17 @@ part-cleared : (memory part : List ℕ) (start end : ℕ) → start ≤ end → 
     → take start memory ++ (part ++ postOf start (end - start) memory) ≡ cleared start end memory
 unfolding cleared
 part-cleared memory part start end h k e =
-    let l : length (take (end - start) (drop start memory)) ≡ end - start = simp (length-take, length-drop) (omega arith) in
-    simp (e, l, post-is start end memory h)
+    let long : length (take (end - start) (drop start memory)) ≡ end - start =
+    simp (length-take, length-drop) (omega arith) in
+    simp (e, long, post-is start end memory h)
 
 returns : tie.Need-returns
 returns c =
-    let a = c .before .before .before .before .before .args in
-    part-cleared (a .memory .now) (c .before .before .clear .last .0) (a .start) (a .end) (search needs) (search needs) (c .before .before .clear .ensures)
+    let cleared : tie.After-clear = search in
+    let start : tie.Start = search in
+    part-cleared (start .args .memory .now) _ (start .args .start) (start .args .end) (search) (search)
+    (cleared .clear .ensures)
 
 pub clear-window-spec : {M : Type 1} → statement M
-clear-window-spec =
-    tie.close
-    (tie.spec
-    (λ c. search needs) (λ c. search needs) (λ c. search needs) (λ c κs. search needs) (λ c. search needs) returns)
+clear-window-spec = tie.close (tie.spec
+    (search needs) (search needs) (search needs) (search needs) (search needs) returns)

@@ -1,39 +1,32 @@
 -- The checks come first; memory changes only where all have passed.
-use mathlib.Core.Path.{_≡_}
+use mathlib.Core.Path.{sym, _∙_}
 use borrow.Author.Needs.{needs}
-use Rattle.verifier.specs.Verify.{verifyOf}
-use Rattle.verifier.specs.declared.verifier.Verdict.the-variants as verdict
 use Rattle.loader.proofs.Answers.{wrong-size, unfit, done}
 use Rattle.loader.proofs.loader.load.Statement.{statement}
 use Rattle.loader.proofs.loader.load.Tie as tie
 
+place-requires : tie.Need-place-requires
+place-requires c κs =
+    let told : tie.After-layout = search in
+    let verified : tie.After-verify = search in
+    (sym (verified .verify .ensures) ∙ told .layout .given .1, search needs)
+
 returns : tie.Need-returns
-returns c =
-    let m = c .before .before .before .before in
-    wrong-size (m .args .file .now) (m .args .memory .now) _ (c .before .if1 .taken) (c .refusal-of .ensures)
+returns c = wrong-size _ _ _ (c .before .if1 .taken) (search)
 
 returns-2 : tie.Need-returns-2
 returns-2 c =
-    let m = c .before .before .before .before .before .before .before in
-    let e : verifyOf (m .args .file .now) ≡ verdict.Refused (c .before .refusal .given .0 .0) = cc in
-    unfit (m .args .file .now) (m .args .memory .now) _ (search needs) e
+    let verified : tie.After-verify = search in
+    unfit _ _ (search) _ (verified .verify .ensures) _ (search)
 
 returns-3 : tie.Need-returns-3
 returns-3 c =
-    let m = c .before .before .before .before .before .before .before .before .before .before .before in
-    let e : verifyOf (m .args .file .now) ≡ verdict.Fit (c .before .before .before .before .before .layout .given .0 .0) = cc in
-    done (m .args .file .now) (m .args .memory .now) _ _ (search needs) e (c .before .before .place .ensures)
+    let placed : tie.After-place = search in
+    let verified : tie.After-verify = search in
+    done _ _ (search) _ (verified .verify .ensures) _ _ (search) (placed .place .ensures)
 
 pub load-spec : {M : Type 1} → statement M
-load-spec =
-    tie.close
-    (tie.spec
-    (λ c κs. search needs)
-    returns
-    (λ c κs. search needs)
-    (λ c. search needs)
-    (λ c. search needs)
-    (λ c κs. let e : verifyOf (c .before .before .before .before .before .before .before .before .args .file .now) ≡ verdict.Fit (c .before .before .layout .given .0 .0) = cc in (e, search needs))
-    returns-2
-    (λ c. search needs)
-    returns-3)
+load-spec = tie.close (tie.spec
+    (search needs) returns
+    (search needs) (search needs) (search needs) place-requires returns-2
+    (search needs) returns-3)

@@ -14,19 +14,8 @@ abbrev μ-loop : tie.MeasureT-loop
 μ-loop code₀ scan₀ turns₀ code scan turns = turns
 
 pub read-code-spec : {M : Type 1} → statement M
-read-code-spec =
-    tie.close
-    (tie.spec
-    Inv-loop
-    μ-loop
-    (λ c κs. search needs)
-    (λ c. search needs)
-    (λ c κs. search needs)
-    (λ c κs. search needs)
-    (λ c. search needs)
-    (λ c. search needs)
-    (λ c. search needs)
-    (λ c. search needs)
-    (λ c. (search needs, sym (length-take-le _ _ (omega arith))))
-    (λ c. search needs)
-    (λ c. (search needs, sym (length-take-le _ _ (omega arith)))))
+read-code-spec = tie.close (tie.spec
+    Inv-loop μ-loop
+    (search needs) (search needs) (search needs) (search needs) (search needs) (search needs) (search needs)
+    (search needs) (λ c. (search needs, sym (length-take-le _ _ (omega arith))))
+    (search needs) (λ c. (search needs, sym (length-take-le _ _ (omega arith)))))

@@ -7,12 +7,6 @@ use Rattle.pack.proofs.maker.pack.Statement.{statement}
 use Rattle.pack.proofs.maker.pack.Tie as tie
 
 pub pack-spec : {M : Type 1} → statement M
-pack-spec =
-    tie.close
-    (tie.spec
-    (λ c κs. search needs)
-    (λ c κs. search needs)
-    (λ c. search needs)
-    (λ c. sym (length-take-le _ _ (omega arith)))
-    (λ c κs. search needs)
-    (λ c. search needs))
+pack-spec = tie.close (tie.spec
+    (search needs) (search needs) (search needs) (λ c. sym (length-take-le _ _ (omega arith)))
+    (search needs) (search needs))

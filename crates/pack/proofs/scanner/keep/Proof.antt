@@ -6,12 +6,7 @@ use Rattle.pack.proofs.scanner.keep.Statement.{statement}
 use Rattle.pack.proofs.scanner.keep.Tie as tie
 
 pub keep-spec : {M : Type 1} → statement M
-keep-spec =
-    tie.close
-    (tie.spec
-    (λ c. search needs)
-    (λ c. search needs)
-    (λ c. search needs)
-    (λ c. search needs)
+keep-spec = tie.close (tie.spec
+    (search needs) (search needs) (search needs) (search needs)
     (λ c. (search needs, simp length-set (omega arith)))
-    (λ c. search needs))
+    (search needs))

@@ -10,20 +10,11 @@ returns-3 c = rw (c .before .match .keys3) (c .used-in .ensures)
 
 returns-6 : tie.Need-returns-6
 returns-6 c =
-    let e : c .before .before .before .args .j ≡ 5 = omega arith in
-    rw e (c .blocks-needed .ensures)
+    let start : tie.Start = search in
+    let fifth : start .args .j ≡ 5 = omega arith in
+    rw fifth (c .blocks-needed .ensures)
 
 pub header-halfword-spec : {M : Type 1} → statement M
-header-halfword-spec =
-    tie.close
-    (tie.spec
-    (λ c. search needs)
-    (λ c κs. search needs)
-    (λ c κs. search needs)
-    (λ c. search needs)
-    (λ c. search needs)
-    (λ c. search needs)
-    returns-3
-    (λ c. search needs)
-    (λ c. search needs)
-    returns-6)
+header-halfword-spec = tie.close (tie.spec
+    (search needs) (search needs) (search needs) (search needs)
+    (λ c. cc) (λ c. cc) returns-3 (λ c. cc) (λ c. cc) returns-6)

@@ -4,8 +4,8 @@ use Prim.Native.Nat.{_-_, _≤_}
 use native.Mathlib.Omega.{arith}
 use borrow.Author.Needs.{needs}
 use lib.ListN.{length}
-use Rattle.packer.specs.Writing.{Room, Written}
-use Rattle.packer.proofs.Images.{body-header, written-more}
+use Rattle.packer.specs.Writing.{Written}
+use Rattle.packer.proofs.Images.{room-kept, body-header, written-more}
 use Rattle.packer.proofs.writer.write_header.Statement.{statement}
 use Rattle.packer.proofs.writer.write_header.Tie as tie
 
@@ -20,15 +20,18 @@ loop-holds c = (search needs, refl, c .before .before .pre .1)
 
 loop-again : tie.Need-loop-again Inv-loop μ-loop
 loop-again c =
-    let p = c .before .before .before in
-    let h = p .before .before in
-    let head = h .before .before in
-    let m = head .before .before .before in
-    let room : Room (m .args .code .now) (m .args .k) (head .loop .out) = (m .pre .0 .0, m .pre .0 .1, head .loop .inv .1 ∙ m .pre .0 .2) in
-    let is = body-header (m .args .code .now) (m .args .w) (m .args .l) (m .args .k) (head .loop .j) _ (h .before .loop-test .taken) (h .header-halfword .ensures) in (
+    let stored : tie.After-put-halfword Inv-loop μ-loop = search in
+    let made : tie.After-header-halfword Inv-loop μ-loop = search in
+    let head : tie.At-loop Inv-loop μ-loop = search in
+    let at = head .loop in
+    let start : tie.Start Inv-loop μ-loop = search in
+    let put = stored .put-halfword in (
       search needs,
-      p .put-halfword .kept .0 ∙ head .loop .inv .1,
-      written-more _ _ _ _ (head .loop .j) _ _ _ _ _ room (head .loop .inv .2) refl (p .put-halfword .ensures) _ (omega arith) is (c .add-to-sum .ensures),
+      put .kept .0 ∙ at .inv .1,
+      written-more _ _ _ _ (at .j) _ _ _ _ _ (room-kept _ _ _ _ (start .pre .0) (at .inv .1)) (at .inv .2) refl
+          (put .ensures) _ (omega arith)
+          (body-header _ _ _ _ _ _ (made .before .loop-test .taken) (made .header-halfword .ensures))
+          (c .add-to-sum .ensures),
     )
 
 same-length : tie.Need-same-length Inv-loop μ-loop
@@ -36,24 +39,12 @@ same-length c = c .before .loop .inv .1
 
 returns : tie.Need-returns Inv-loop μ-loop
 returns c =
-    let all : c .before .loop .j ≡ 6 = omega arith in
-    rw all at (c .before .loop .inv .2)
+    let at = c .before .loop in
+    let all : at .j ≡ 6 = omega arith in
+    rw all at (at .inv .2)
 
 pub write-header-spec : {M : Type 1} → statement M
-write-header-spec =
-    tie.close
-    (tie.spec
-    Inv-loop
-    μ-loop
-    (λ c. search needs)
-    loop-holds
-    (λ c κs. search needs)
-    (λ c. search needs)
-    (λ c. search needs)
-    (λ c κs. search needs)
-    (λ c κs. search needs)
-    (λ c. search needs)
-    (λ c. search needs)
-    loop-again
-    same-length
-    returns)
+write-header-spec = tie.close (tie.spec
+    Inv-loop μ-loop
+    (search needs) loop-holds (search needs) (search needs) (search needs) (search needs) (search needs)
+    (search needs) (search needs) loop-again same-length returns)

@@ -8,9 +8,6 @@ use Rattle.paw.proofs.date.paw_manual_date.Statement.{statement}
 use Rattle.paw.proofs.date.paw_manual_date.Tie as tie
 
 pub paw-manual-date-spec : {M : Type 1} → statement M
-paw-manual-date-spec =
-    tie.close
-    (tie.spec
-    (λ c. search needs)
-    (λ c. search needs)
+paw-manual-date-spec = tie.close (tie.spec
+    (search needs) (search needs)
     (λ c. sym (List·getD-eq-default manualDate 0 {n = c .before .args .i} (omega arith))))

@@ -18,9 +18,7 @@ start-fits file n (Block start) e = omega (arith, block-in-image file n start e)
 start-fits file n NoneLeft e = omega arith
 
 pub paw-block-spec : {M : Type 1} → statement M
-paw-block-spec =
-    tie.close
-    (tie.spec
-    (λ c κs. search needs)
+paw-block-spec = tie.close (tie.spec
+    (search needs)
     (λ c κs. start-fits _ _ _ (sym (c .given-at .ensures)))
     (λ c. c .given-word .ensures ∙ ap givenWord (c .before .given-at .ensures)))

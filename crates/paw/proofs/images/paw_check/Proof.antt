@@ -6,9 +6,6 @@ use Rattle.paw.proofs.images.paw_check.Statement.{statement}
 use Rattle.paw.proofs.images.paw_check.Tie as tie
 
 pub paw-check-spec : {M : Type 1} → statement M
-paw-check-spec =
-    tie.close
-    (tie.spec
-    (λ c κs. search needs)
-    (λ c κs. search needs)
+paw-check-spec = tie.close (tie.spec
+    (search needs) (search needs)
     (λ c. c .checked-word .ensures ∙ ap checkedWord (c .before .check .ensures)))

@@ -5,11 +5,11 @@ use Rattle.answers.specs.Answers.{packedNumber}
 use Rattle.paw.proofs.images.paw_pack.Statement.{statement}
 use Rattle.paw.proofs.images.paw_pack.Tie as tie
 
+returns : tie.Need-returns
+returns c =
+    let packed : tie.After-pack = search in
+    let pack = packed .pack in
+    (c .packed-number .ensures ∙ ap packedNumber (pack .ensures .0), pack .ensures .1)
+
 pub paw-pack-spec : {M : Type 1} → statement M
-paw-pack-spec =
-    tie.close
-    (tie.spec
-    (λ c κs. search needs)
-    (λ c κs. search needs)
-    (λ c. search needs)
-    (λ c. (c .packed-number .ensures ∙ ap packedNumber (c .before .before .before .pack .ensures .0), c .before .before .before .pack .ensures .1)))
+paw-pack-spec = tie.close (tie.spec (search needs) (search needs) (search needs) returns)

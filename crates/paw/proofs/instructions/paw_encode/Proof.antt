@@ -6,9 +6,6 @@ use Rattle.paw.proofs.instructions.paw_encode.Statement.{statement}
 use Rattle.paw.proofs.instructions.paw_encode.Tie as tie
 
 pub paw-encode-spec : {M : Type 1} → statement M
-paw-encode-spec =
-    tie.close
-    (tie.spec
-    (λ c κs. search needs)
-    (λ c κs. search needs)
+paw-encode-spec = tie.close (tie.spec
+    (search needs) (search needs)
     (λ c. c .encoded-word .ensures ∙ ap encodedWord (c .before .instruction-of .ensures)))

@@ -5,11 +5,11 @@ use Rattle.answers.specs.Answers.{loadedWord}
 use Rattle.paw.proofs.programs.paw_load.Statement.{statement}
 use Rattle.paw.proofs.programs.paw_load.Tie as tie
 
+returns : tie.Need-returns
+returns c =
+    let loaded : tie.After-load = search in
+    let load = loaded .load in
+    (c .loaded-word .ensures ∙ ap loadedWord (load .ensures .0), load .ensures .1)
+
 pub paw-load-spec : {M : Type 1} → statement M
-paw-load-spec =
-    tie.close
-    (tie.spec
-    (λ c κs. search needs)
-    (λ c κs. search needs)
-    (λ c. search needs)
-    (λ c. (c .loaded-word .ensures ∙ ap loadedWord (c .before .before .before .load .ensures .0), c .before .before .before .load .ensures .1)))
+paw-load-spec = tie.close (tie.spec (search needs) (search needs) (search needs) returns)

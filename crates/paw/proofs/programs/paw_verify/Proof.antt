@@ -6,9 +6,6 @@ use Rattle.paw.proofs.programs.paw_verify.Statement.{statement}
 use Rattle.paw.proofs.programs.paw_verify.Tie as tie
 
 pub paw-verify-spec : {M : Type 1} → statement M
-paw-verify-spec =
-    tie.close
-    (tie.spec
-    (λ c κs. search needs)
-    (λ c κs. search needs)
+paw-verify-spec = tie.close (tie.spec
+    (search needs) (search needs)
     (λ c. c .verdict-word .ensures ∙ ap verdictWord (c .before .verify .ensures)))

@@ -7,13 +7,15 @@ use Rattle.reader.proofs.reader.given_as.Tie as tie
 
 returns : tie.Need-returns
 returns c =
-    let m = c .before .before .before .before in
-    c .block-at .ensures ∙ ap (givenAs (m .args .file .now) (m .args .next)) (sym (c .before .enum-told .given .1))
+    let told = c .before in
+    let start : tie.Start = search in
+    c .block-at .ensures ∙ ap (givenAs (start .args .file .now) (start .args .next)) (sym (told .enum-told .given .1))
 
 returns-2 : tie.Need-returns-2
 returns-2 c =
-    let m = c .before .before .before .before in
-    ap (givenAs (m .args .file .now) (m .args .next)) (sym (c .before .checked .given .1))
+    let told = c .before in
+    let start : tie.Start = search in
+    ap (givenAs (start .args .file .now) (start .args .next)) (sym (told .checked .given .1))
 
 pub given-as-spec : {M : Type 1} → statement M
-given-as-spec = tie.close (tie.spec (λ c. search needs) (λ c κs. search needs) (λ c. search needs) returns returns-2)
+given-as-spec = tie.close (tie.spec (search needs) (search needs) (search needs) returns returns-2)

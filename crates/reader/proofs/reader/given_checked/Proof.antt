@@ -8,12 +8,8 @@ use Rattle.reader.proofs.reader.given_checked.Tie as tie
 returns : tie.Need-returns
 unfolding givenOf
 returns c =
-    let m = c .before .before in
-    c .given-as .ensures ∙ ap (givenAs (m .args .file .now) (m .args .n)) (m .pre)
+    let start : tie.Start = search in
+    c .given-as .ensures ∙ ap (givenAs (start .args .file .now) (start .args .n)) (start .pre)
 
 pub given-checked-spec : {M : Type 1} → statement M
-given-checked-spec =
-    tie.close
-    (tie.spec
-    (λ c κs. search needs)
-    returns)
+given-checked-spec = tie.close (tie.spec (search needs) returns)

@@ -6,9 +6,6 @@ use Rattle.runner.proofs.notes.byte_at.Statement.{statement}
 use Rattle.runner.proofs.notes.byte_at.Tie as tie
 
 pub byte-at-spec : {M : Type 1} → statement M
-byte-at-spec =
-    tie.close
-    (tie.spec
-    (λ c. search needs)
-    (λ c. search needs)
-    (λ c. sym (List·getD-eq-default (c .before .args .memory .now) 0 (c .if1 .left))))
+byte-at-spec = tie.close (tie.spec
+    (search needs) (search needs)
+    (λ c. sym (List·getD-eq-default (c .before .args .memory .now) 0 (search))))

@@ -7,19 +7,14 @@ use Rattle.runner.proofs.runs.run.Tie as tie
 
 returns : tie.Need-returns
 returns c =
-    let noted = c .before .before in
-    let ran = noted .before .before .before .before .before .run-lent in (
+    let noted : tie.After-note-left = search in
+    let lasted : tie.After-run-lent = search in
+    let ran = lasted .run-lent in (
       rw (noted .note-left .ensures) (run-left _ _ _ _ (ran .ensures .0)),
       told-left _ _ _ _ _ (c .last-traffic .ensures) (ran .ensures .1),
     )
 
 pub run-spec : {M : Type 1} → statement M
-run-spec =
-    tie.close
-    (tie.spec
+run-spec = tie.close (tie.spec
     (λ c κs. search needs)
-    (λ c. search needs)
-    (λ c κs. search needs)
-    (λ c κs. search needs)
-    (λ c. search needs)
-    returns)
+    (search needs) (search needs) (search needs) (search needs) returns)

@@ -10,28 +10,19 @@ use Rattle.targets.proofs.branch.jump.Tie as tie
 
 returns : tie.Need-returns
 returns c =
-    let s = c .before .before in
-    sym (no-branch (s .args .a) (s .args .h) (λ low high. omega (arith, c .before .bits .ensures)))
+    let start : tie.Start = search in
+    sym (no-branch (start .args .a) (start .args .h) (λ low high. omega arith))
 
 returns-2 : tie.Need-returns-2
 returns-2 c =
-    let s = c .before .before .before in
-    sym (no-branch (s .args .a) (s .args .h) (λ low high. omega (arith, c .before .before .bits .ensures)))
+    let start : tie.Start = search in
+    sym (no-branch (start .args .a) (start .args .h) (λ low high. omega arith))
 
 returns-3 : tie.Need-returns-3
 returns-3 c =
-    let s = c .before .before .before .before .before in
-    let u = c .before .before .before .before .bits .ensures in
-    let d = is-branch (s .args .h) (omega arith) (omega arith) in
-    ap To (rw (c .before .bits2 .ensures) at (c .branch-target .ensures)) ∙ ap (jumpAt (s .args .a)) (sym d)
+    let start : tie.Start = search in
+    let d = is-branch (start .args .h) (omega arith) (omega arith) in
+    ap To (rw (c .before .bits2 .ensures) at (c .branch-target .ensures)) ∙ ap (jumpAt (start .args .a)) (sym d)
 
 pub jump-spec : {M : Type 1} → statement M
-jump-spec =
-    tie.close
-    (tie.spec
-    (λ c κs. search needs)
-    returns
-    returns-2
-    (λ c κs. search needs)
-    (λ c κs. search needs)
-    returns-3)
+jump-spec = tie.close (tie.spec (search needs) returns returns-2 (search needs) (search needs) returns-3)

@@ -10,19 +10,13 @@ use Rattle.targets.proofs.marks.set_mark.Tie as tie
 
 returns : tie.Need-returns
 returns c =
-    let s = c .before .before in (
-      length-set (s .args .marks .now) _ _ ∙ s .pre .0,
-      λ j. rw (shl-one (s .args .i .0 % 64) (omega arith)) (marked-set (s .args .marks .now) (s .args .i .0) j (omega (arith, s .pre .0, s .pre .1))),
+    let start : tie.Start = search in
+    let i = start .args .i .0 in
+    let marks = start .args .marks .now in (
+      length-set marks _ _ ∙ start .pre .0,
+      λ j. rw (shl-one (i % 64) (omega arith)) (marked-set marks i j (omega arith)),
     )
 
 pub set-mark-spec : {M : Type 1} → statement M
-set-mark-spec =
-    tie.close
-    (tie.spec
-    (λ c. search needs)
-    (λ c. search needs)
-    (λ c. search needs)
-    (λ c. search needs)
-    (λ c. search needs)
-    (λ c. search needs)
-    returns)
+set-mark-spec = tie.close (tie.spec
+    (search needs) (search needs) (search needs) (search needs) (search needs) (search needs) returns)

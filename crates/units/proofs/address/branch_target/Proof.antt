@@ -19,12 +19,6 @@ distance offset fits = go (ltb offset 128) refl
     go false e = let l : 128 ≤ offset = ltb-false offset 128 e in simp e (omega arith)
 
 pub branch-target-spec : {M : Type 1} → statement M
-branch-target-spec =
-    tie.close
-    (tie.spec
-    (λ c. search needs)
-    (λ c. search needs)
-    (λ c. search needs)
-    (λ c. search needs)
-    (λ c κs. search needs)
-    (λ c. at (omega (arith, c .wrapping-add-u16 .ensures, distance (c .before .args .offset) (search needs)))))
+branch-target-spec = tie.close (tie.spec
+    (search needs) (search needs) (search needs) (search needs) (search needs)
+    (λ c. at (omega (arith, distance (c .before .args .offset) (search)))))

@@ -6,8 +6,4 @@ use Rattle.units.proofs.address.byte_address.Statement.{statement}
 use Rattle.units.proofs.address.byte_address.Tie as tie
 
 pub byte-address-spec : {M : Type 1} → statement M
-byte-address-spec =
-    tie.close
-    (tie.spec
-    (λ c κs. search needs)
-    (λ c. at (omega (arith, c .wrapping-add-u16 .ensures))))
+byte-address-spec = tie.close (tie.spec (search needs) (λ c. at (omega arith)))

@@ -14,12 +14,19 @@ use Rattle.units.proofs.fields.bits.Tie as tie
 one-shifted : (n : ℕ) → n ≤ 8 → 1 * 2 ^ n % 65536 ≡ 2 ^ n
 one-shifted n h = shl-exact {a = 1} 1 n 16 (lit< tt) (omega arith) ∙ one-mul (2 ^ n)
 
+sub-result : tie.Need-sub-result
+sub-result c = rw (one-shifted (c .args .width) (search)) (pow-pos (c .args .width))
+
+cast-result : tie.Need-cast-result
+cast-result c =
+    let width = c .args .width in
+    let byte : 2 ^ width ≤ 2 ^ 8 = pow-mono {i = width} {j = 8} (search) in
+    rw (one-shifted width (search)) (omega (arith, mask-lt (c .args .h / 2 ^ c .args .at) width))
+
+returns : tie.Need-returns
+returns c =
+    let width = c .args .width in
+    rw (one-shifted width (search)) (and-mask (c .args .h / 2 ^ c .args .at) width)
+
 pub bits-spec : {M : Type 1} → statement M
-bits-spec =
-    tie.close
-    (tie.spec
-    (λ c. search needs)
-    (λ c. search needs)
-    (λ c. rw (one-shifted (c .args .width) (search needs)) (pow-pos (c .args .width)))
-    (λ c. let p : 2 ^ c .args .width ≤ 2 ^ 8 = pow-mono {i = c .args .width} {j = 8} (search needs) in rw (one-shifted (c .args .width) (search needs)) (omega (arith, mask-lt (c .args .h / 2 ^ c .args .at) (c .args .width))))
-    (λ c. rw (one-shifted (c .args .width) (search needs)) (and-mask (c .args .h / 2 ^ c .args .at) (c .args .width))))
+bits-spec = tie.close (tie.spec (search needs) (search needs) sub-result cast-result returns)

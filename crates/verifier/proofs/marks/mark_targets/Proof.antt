@@ -1,98 +1,81 @@
 -- `mark_targets` is right because after each block bit j is set exactly when a branch so far goes to j.
-use mathlib.Core.Path.{_≡_, refl, sym, ap, _∙_}
-use Prim.Native.Nat.{ℕ, _+_, _-_, _≤_, _<_}
+use mathlib.Core.Path.{_≡_}
+use Prim.Native.Nat.{_-_}
 use native.Mathlib.Omega.{arith}
 use lib.ListN.{length}
 use Rattle.image.specs.Code.{codeOf}
-use Rattle.image.specs.Format.{mostCode}
-use Rattle.targets.specs.Targets.{targetedBelow, targeted, markWords, markedAt}
-use Rattle.verifier.specs.Position.{BlockAt, blockEnd}
-use Rattle.verifier.proofs.Accepted.{count-is, position-small}
-use Rattle.verifier.proofs.Position.{on}
+use Rattle.targets.specs.Targets.{targetedBelow, targeted}
+use Rattle.verifier.specs.Marks.{MarkedBelow}
+use Rattle.verifier.specs.Position.{BlockOf}
+use Rattle.verifier.proofs.Accepted.{count-is, Next, first-turn, position-small, next-block}
+use Rattle.verifier.proofs.Position.{Between, between-first}
 use borrow.Author.Needs.{needs}
 use Rattle.verifier.proofs.marks.mark_targets.Statement.{statement}
 use Rattle.verifier.proofs.marks.mark_targets.Tie as tie
 
 abbrev Inv-loop : tie.InvT-loop
 Inv-loop file layout marks₀ count i₀ position₀ marks i position =
-    (i .0 ≤ count .0) × (i .0 < count .0 → BlockAt (i .0) position) × (length marks ≡ markWords)
-    × ((j : ℕ) → j < mostCode → markedAt marks j ≡ targetedBelow (codeOf file) (i .0) j)
+    Between (count .0) (i .0) position × MarkedBelow (codeOf file) (i .0) marks
 
 abbrev μ-loop : tie.MeasureT-loop
 μ-loop file layout marks₀ count i₀ position₀ marks i position = count .0 - i .0
 
--- where the code ends
-count-at : (c : tie.After-instruction-index Inv-loop μ-loop) → c .instruction-index .result .0 ≡ length (codeOf (c .before .before .args .file .now))
-count-at c = count-is _ _ (c .before .before .pre .0) (c .instruction-index .result) (c .instruction-index .ensures)
-
 loop-holds : tie.Need-loop-holds Inv-loop μ-loop
 unfolding targetedBelow
-loop-holds c = (search needs, λ l. (refl, refl), c .before .before .pre .1 .0, λ j h. c .before .before .pre .1 .1 j)
+loop-holds c =
+    let start : tie.Start Inv-loop μ-loop = search in
+    (between-first _, record { words = start .pre .1 .words; marked = λ j l. start .pre .1 .none j })
 
 -- the places before a turn: the loop's head, and the function's entry
 abbrev head : tie.Then1 Inv-loop μ-loop → tie.At-loop Inv-loop μ-loop
-head c = c .before .before .before
+head turn = search
 
-abbrev entry : tie.Then1 Inv-loop μ-loop → tie.Start Inv-loop μ-loop
-entry c = head c .before .before .before
+abbrev start-of : tie.At-loop Inv-loop μ-loop → tie.Start Inv-loop μ-loop
+start-of head = search
 
-abbrev number : tie.Then1 Inv-loop μ-loop → ℕ
-number c = head c .loop .i .0
+-- where the code ends
+count : (head : tie.At-loop Inv-loop μ-loop)
+    → head .before .instruction-index .result .0 ≡ length (codeOf (start-of head .args .file .now))
+count head = count-is _ _ (start-of head .pre .0) _ (head .before .instruction-index .ensures)
 
 -- a turn is at a block of the code
-inside : (c : tie.Then1 Inv-loop μ-loop) → number c < length (codeOf (entry c .args .file .now))
-inside c = omega (arith, count-at (head c .before))
-
-at : (c : tie.Then1 Inv-loop μ-loop) → BlockAt (number c) (head c .loop .position)
-at c = head c .loop .inv .1 (search needs)
+block : (turn : tie.Then1 Inv-loop μ-loop) → let head = head turn in
+    BlockOf (start-of head .args .file .now) (start-of head .args .layout) (head .loop .i .0) (head .loop .position)
+block turn =
+    let head = head turn in
+    record {
+      accepted = start-of head .pre .0;
+      inside = omega (arith, count head);
+      at = head .loop .inv .0 .at (search needs);
+    }
 
 mark-block-requires : tie.Need-mark-block-requires Inv-loop μ-loop
-mark-block-requires c κs =
-    let t = c .before in
-    (entry t .pre .0, ((inside t, at t), (head t .loop .inv .2, head t .loop .inv .3)))
+mark-block-requires c κs = search block
 
 add-position : tie.Need-add-position Inv-loop μ-loop
-add-position c =
-    let t = c .before .before in
-    let small = position-small _ _ (entry t .pre .0) _ _ (inside t) (at t .1) in
-    omega (arith, small)
+add-position c = omega (arith, position-small (first-turn (block (c .before .before))))
 
 -- the block after the one of a turn
-next : (c : tie.After-block-end Inv-loop μ-loop) → let t = c .before .before .before in let n = head t .before .instruction-index .result .0 in let e = c .block-end .result .0 in
-    (number t < e) × (e ≤ n) × (e < n → BlockAt e (head t .loop .position + 512))
-next c = let t = c .before .before .before in on (number t) _ _ _ (search needs) (at t) (c .block-end .ensures)
+next : (c : tie.After-block-end Inv-loop μ-loop) → let head = head (c .before .before .before) in
+    Next (start-of head .args .file .now) (head .before .instruction-index .result .0)
+    (head .loop .i .0) (head .loop .position) (c .block-end .result .0)
+next c =
+    let turn : tie.Then1 Inv-loop μ-loop = search in
+    next-block (block turn) (head turn .before .instruction-index .ensures) (c .block-end .ensures)
 
 loop-again : tie.Need-loop-again Inv-loop μ-loop
-loop-again c =
-    let t = c .before .before .before in
-    let whole = codeOf (entry t .args .file .now) in
-    let e : blockEnd (number t) (length whole) ≡ c .block-end .result .0
-    = sym (c .block-end .ensures ∙ ap (blockEnd (number t)) (count-at (head t .before))) in (
-      next c .1,
-      next c .2,
-      c .before .mark-block .ensures .0,
-      λ j h. c .before .mark-block .ensures .1 j h ∙ ap (λ (k : ℕ). targetedBelow whole k j) e,
-    )
+loop-again c = (next c .between, rw (next c .is-end) at (c .before .mark-block .ensures))
 
 returns : tie.Need-returns Inv-loop μ-loop
 unfolding targeted
 returns c j l =
-    let h = c .before .before .before in
-    let whole = codeOf (h .before .before .before .args .file .now) in
-    let e : h .loop .i .0 ≡ length whole = omega (arith, count-at (h .before)) in
-    h .loop .inv .3 j l ∙ ap (λ (k : ℕ). targetedBelow whole k j) e
+    let head : tie.At-loop Inv-loop μ-loop = search in
+    let at-end : head .loop .i .0 ≡ length (codeOf (start-of head .args .file .now)) = omega (arith, count head) in
+    rw at-end at (head .loop .inv .1 .marked j l)
 
 pub mark-targets-spec : {M : Type 1} → statement M
-mark-targets-spec =
-    tie.close
-    (tie.spec
-    Inv-loop
-    μ-loop
-    (λ c κs. search needs)
-    loop-holds
-    mark-block-requires
-    add-position
-    (λ c κs. search needs)
-    (λ c. omega (arith, next c .0, next c .1))
-    loop-again
+mark-targets-spec = tie.close (tie.spec
+    Inv-loop μ-loop
+    (search needs) loop-holds
+    mark-block-requires add-position (search needs) (λ c. omega (arith, next c)) loop-again
     returns)

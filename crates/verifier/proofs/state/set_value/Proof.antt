@@ -8,10 +8,4 @@ returns : tie.Need-returns
 returns c = state-set (c .before .args .state .now) _ _ _ (c .word-of .ensures)
 
 pub set-value-spec : {M : Type 1} → statement M
-set-value-spec =
-    tie.close
-    (tie.spec
-    (λ c κs. search needs)
-    (λ c. search needs)
-    (λ c. search needs)
-    returns)
+set-value-spec = tie.close (tie.spec (search needs) (search needs) (search needs) returns)

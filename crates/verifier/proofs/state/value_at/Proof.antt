@@ -8,14 +8,8 @@ use Rattle.verifier.proofs.state.value_at.Tie as tie
 
 returns : tie.Need-returns
 returns c =
-    let m = c .before .before in
-    c .value-of .ensures ∙ state-value (m .args .state .now) (m .args .r) (omega (arith, m .pre .0, m .pre .1))
+    let start : tie.Start = search in
+    c .value-of .ensures ∙ state-value (start .args .state .now) (start .args .r) (omega arith)
 
 pub value-at-spec : {M : Type 1} → statement M
-value-at-spec =
-    tie.close
-    (tie.spec
-    (λ c. search needs)
-    (λ c. search needs)
-    (λ c κs. search needs)
-    returns)
+value-at-spec = tie.close (tie.spec (search needs) (search needs) (search needs) returns)

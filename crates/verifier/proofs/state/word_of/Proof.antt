@@ -6,17 +6,11 @@ use Rattle.verifier.proofs.state.word_of.Statement.{statement}
 use Rattle.verifier.proofs.state.word_of.Tie as tie
 
 returns : tie.Need-returns
-returns c = word-value (c .before .before .before .args .v) (omega arith) (omega arith) (omega arith)
+returns c =
+    let start : tie.Start = search in
+    word-value (start .args .v) (omega arith) (omega arith) (omega arith)
 
 pub word-of-spec : {M : Type 1} → statement M
-word-of-spec =
-    tie.close
-    (tie.spec
-    (λ c. search needs)
-    (λ c. search needs)
-    (λ c. search needs)
-    (λ c. search needs)
-    (λ c. search needs)
-    (λ c. search needs)
-    (λ c. search needs)
+word-of-spec = tie.close (tie.spec
+    (search needs) (search needs) (search needs) (search needs) (search needs) (search needs) (search needs)
     returns)

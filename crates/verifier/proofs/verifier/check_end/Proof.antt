@@ -6,60 +6,60 @@ use lib.ListN.{length}
 use Rattle.image.specs.Code.{codeOf}
 use Rattle.image.specs.Check.{firstNo}
 use Rattle.refusals.specs.Refusal.{refusalAt}
-use Rattle.image.proofs.Valid.{valid-code, code-in-file, code-halfword}
+use Rattle.image.proofs.Valid.{code-in-file, code-halfword}
 use Rattle.targets.specs.Targets.{addressOf}
 use Rattle.checks.specs.Questions.{answerAt}
 use Rattle.verifier.specs.Verify.{codeChecks}
 use Rattle.verifier.specs.declared.verifier.Verdict.the-variants.{Refused}
-use Rattle.verifier.proofs.Accepted.{count-is}
+use Rattle.verifier.proofs.Accepted.{not-none, last-is}
 use Rattle.verifier.proofs.Walk.{ended, fit, verdict-is, answer-refused}
 use borrow.Author.Needs.{needs}
 use Rattle.verifier.proofs.verifier.check_end.Statement.{statement}
 use Rattle.verifier.proofs.verifier.check_end.Tie as tie
 
-count : (c : tie.After-instruction-index) → c .instruction-index .result .0 ≡ length (codeOf (c .before .before .args .file .now))
-count c = count-is _ _ (c .before .before .pre .0) (c .instruction-index .result) (c .instruction-index .ensures)
+abbrev start-of : tie.After-instruction-index → tie.Start
+start-of counted = counted .before .before
 
 -- the last instruction is one of the code
-last : (c : tie.After-instruction-index) → length (codeOf (c .before .before .args .file .now)) ≡ suc (c .instruction-index .result .0 - 1)
-last c = omega (arith, count c, valid-code _ _ (c .before .before .pre .0) .0)
+last : (counted : tie.After-instruction-index) → length (codeOf (start-of counted .args .file .now))
+    ≡ suc (counted .instruction-index .result .0 - 1)
+last counted = last-is _ _ (start-of counted .pre .accepted) _ (counted .instruction-index .ensures)
+
+sub-check-last : tie.Need-sub-check-last
+sub-check-last c =
+    let counted = c .before in
+    not-none _ _ (start-of counted .pre .accepted) _ (counted .instruction-index .ensures)
 
 code-at-requires : tie.Need-code-at-requires
 code-at-requires c κs =
-    let k = c .before in
-    code-in-file _ _ (k .before .before .pre .0) _ (omega (arith, last k))
+    let counted = c .before in
+    code-in-file _ _ (start-of counted .pre .accepted) _ (omega (arith, last counted))
 
 -- what the checks come to
-come-to : (c : tie.After-check-last) → let k = c .before .before .before in let s = k .before .before in
-    firstNo (codeChecks (codeOf (s .args .file .now)) (s .args .layout) (length (codeOf (s .args .file .now)))) ≡ answerAt (addressOf (k .instruction-index .result .0 - 1)) (c .check-last .result)
-come-to c =
-    let k = c .before .before .before in
-    let s = k .before .before in
-    let h = c .before .code-at .ensures ∙ sym (code-halfword (s .args .file .now) _ (omega (arith, last k))) in
-    ended _ _ _ _ _ (last k) h (c .check-last .ensures) (s .pre .1)
+abbrev counted : tie.After-check-last → tie.After-instruction-index
+counted asked = search
+
+come-to : (asked : tie.After-check-last) → let start = start-of (counted asked) .args in
+    let code = codeOf (start .file .now) in
+    firstNo (codeChecks code (start .layout) (length code))
+    ≡ answerAt (addressOf (counted asked .instruction-index .result .0 - 1)) (asked .check-last .result)
+come-to asked =
+    let counted = counted asked in
+    let file = start-of counted .args .file .now in
+    ended _ _ (last counted) (asked .before .code-at .ensures
+    ∙ sym (code-halfword file _ (omega (arith, last counted))))
+    (asked .check-last .ensures) (start-of counted .pre .passed)
 
 returns : tie.Need-returns
 returns c =
-    let l = c .before .before .before in
-    let k = l .before .before .before in
-    ap Refused (c .refusal-at .ensures ∙ ap (refusalAt (l .check-last .result)) (c .before .byte-address .ensures))
-    ∙ verdict-is _ _ _ (come-to l ∙ answer-refused (addressOf (k .instruction-index .result .0 - 1)) _ (c .before .before .if1 .taken))
+    let failed : tie.Then1 = search in
+    ap Refused (c .refusal-at .ensures ∙ ap (refusalAt _) (c .before .byte-address .ensures))
+    ∙ verdict-is _ _ _ (come-to (failed .before) ∙ answer-refused _ _ (failed .if1 .taken))
 
 returns-2 : tie.Need-returns-2
-returns-2 c =
-    let l = c .before in
-    let k = l .before .before .before in
-    fit _ _ (come-to l ∙ ap (answerAt (addressOf (k .instruction-index .result .0 - 1))) (c .if1 .left))
+returns-2 c = fit _ _ (come-to (c .before) ∙ ap (answerAt _) (c .if1 .left))
 
 pub check-end-spec : {M : Type 1} → statement M
-check-end-spec =
-    tie.close
-    (tie.spec
-    (λ c κs. search needs)
-    (λ c. omega (arith, count (c .before), valid-code _ _ (c .before .before .before .pre .0) .0))
-    code-at-requires
-    (λ c κs. search needs)
-    (λ c κs. search needs)
-    (λ c κs. search needs)
-    returns
-    returns-2)
+check-end-spec = tie.close (tie.spec
+    (search needs) sub-check-last code-at-requires
+    (search needs) (search needs) (search needs) returns returns-2)

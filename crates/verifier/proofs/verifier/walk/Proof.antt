@@ -1,125 +1,98 @@
--- `walk` is right because before each block the state is the definition's, and no instruction so far has failed a check.
-use mathlib.Core.List.{List}
-use mathlib.Core.Path.{_≡_, refl, sym, ap, _∙_}
-use Prim.Native.Nat.{ℕ, _+_, _-_, _≤_, _<_}
+-- `walk` is right because before each block the state is the definition's, and no check has failed so far.
+use mathlib.Core.Path.{_≡_, _∙_}
+use Prim.Native.Nat.{_-_}
 use native.Mathlib.Omega.{arith}
-use lib.ListN.{length, replicate}
-use Rattle.image.specs.Check.{firstNo, rowsBelow}
+use lib.ListN.{length}
 use Rattle.image.specs.Code.{codeOf}
 use Rattle.targets.proofs.Bits.{none-marked}
-use Rattle.checks.specs.State.{unknownState}
-use Rattle.verifier.specs.Position.{BlockAt, blockEnd}
-use Rattle.verifier.specs.Progress.{PassedBelow}
+use Rattle.verifier.specs.Position.{BlockOf}
+use Rattle.verifier.specs.Progress.{Walked}
 use Rattle.verifier.specs.Words.{stateOf}
-use Rattle.verifier.specs.Verify.{entering}
-use Rattle.verifier.proofs.Accepted.{count-is, position-small}
-use Rattle.verifier.proofs.Position.{on}
-use Rattle.verifier.proofs.Words.{state-replicate}
+use Rattle.verifier.proofs.Accepted.{count-is, Next, first-turn, position-small, next-block}
+use Rattle.verifier.proofs.Position.{Between, between-first}
+use Rattle.verifier.proofs.Walk.{walked-first}
+use Rattle.verifier.proofs.Words.{unknown-words}
 use borrow.Author.Needs.{needs}
 use Rattle.verifier.proofs.verifier.walk.Statement.{statement}
 use Rattle.verifier.proofs.verifier.walk.Tie as tie
 
 abbrev Inv-loop : tie.InvT-loop
 Inv-loop file layout count marks state₀ i₀ position₀ state i position =
-    (i .0 ≤ count .0) × (i .0 < count .0 → BlockAt (i .0) position) × (stateOf state ≡ entering (codeOf file) (i .0))
-    × PassedBelow (codeOf file) layout (i .0)
+    Between (count .0) (i .0) position × Walked (codeOf file) layout (i .0) (stateOf state)
 
 abbrev μ-loop : tie.MeasureT-loop
 μ-loop file layout count marks state₀ i₀ position₀ state i position = count .0 - i .0
 
--- where the code ends
-count-at : (c : tie.After-instruction-index Inv-loop μ-loop) → c .instruction-index .result .0 ≡ length (codeOf (c .before .before .args .file .now))
-count-at c = count-is _ _ (c .before .before .pre) (c .instruction-index .result) (c .instruction-index .ensures)
-
--- the words of a state of which nothing is known
-unknown-is : (c : tie.After-word-of Inv-loop μ-loop) → stateOf (replicate 16 (c .word-of .result)) ≡ unknownState
-unknown-is c = state-replicate 16 (c .word-of .result) ∙ ap (replicate 16) (c .word-of .ensures ∙ c .before .unknown .ensures)
-
 loop-holds : tie.Need-loop-holds Inv-loop μ-loop
-unfolding entering rowsBelow firstNo
-loop-holds c = (search needs, λ l. (refl, refl), unknown-is c, refl)
+loop-holds c = (between-first _, walked-first (unknown-words _ (c .word-of .ensures ∙ c .before .unknown .ensures)))
 
--- the places before a turn: the loop's head, the function's entry, and the count
+-- the places before a turn: the loop's head, where instructions are counted, and the function's entry
 abbrev head : tie.Then1 Inv-loop μ-loop → tie.At-loop Inv-loop μ-loop
-head c = c .before .before .before
+head turn = search
 
-abbrev entry : tie.Then1 Inv-loop μ-loop → tie.Start Inv-loop μ-loop
-entry c = head c .before .before .before .before .before .before .before
+abbrev counted : tie.At-loop Inv-loop μ-loop → tie.After-instruction-index Inv-loop μ-loop
+counted head = search
 
-abbrev counted : tie.Then1 Inv-loop μ-loop → tie.After-instruction-index Inv-loop μ-loop
-counted c = head c .before .before .before .before .before
+abbrev start-of : tie.At-loop Inv-loop μ-loop → tie.Start Inv-loop μ-loop
+start-of head = counted head .before .before
 
--- what a turn is about
-abbrev code : tie.Then1 Inv-loop μ-loop → List ℕ
-code c = codeOf (entry c .args .file .now)
+-- where the code ends
+count : (head : tie.At-loop Inv-loop μ-loop)
+    → counted head .instruction-index .result .0 ≡ length (codeOf (start-of head .args .file .now))
+count head = count-is _ _ (start-of head .pre) _ (counted head .instruction-index .ensures)
 
-abbrev number : tie.Then1 Inv-loop μ-loop → ℕ
-number c = head c .loop .i .0
-
--- it is at a block of the code
-inside : (c : tie.Then1 Inv-loop μ-loop) → number c < length (code c)
-inside c = omega (arith, count-at (counted c))
-
-at : (c : tie.Then1 Inv-loop μ-loop) → BlockAt (number c) (head c .loop .position)
-at c = head c .loop .inv .1 (search needs)
+-- a turn is at a block of the code
+block : (turn : tie.Then1 Inv-loop μ-loop) → let head = head turn in
+    BlockOf (start-of head .args .file .now) (start-of head .args .layout) (head .loop .i .0) (head .loop .position)
+block turn =
+    let head = head turn in
+    record {
+      accepted = start-of head .pre;
+      inside = omega (arith, count head);
+      at = head .loop .inv .0 .at (search needs);
+    }
 
 walk-block-requires : tie.Need-walk-block-requires Inv-loop μ-loop
-walk-block-requires c κs =
-    let t = c .before .before in
-    (entry t .pre, (head t .before .before .before .mark-targets .ensures, ((inside t, at t), (head t .loop .inv .2, head t .loop .inv .3))))
+walk-block-requires c κs = search block
+
+returns : tie.Need-returns Inv-loop μ-loop
+returns c =
+    let refused = c .before in
+    rw (refused .answer .given .1) at (refused .before .before .walk-block .ensures)
 
 -- the turn, from where the block has been walked over
 abbrev turn : tie.After-walk-block Inv-loop μ-loop → tie.Then1 Inv-loop μ-loop
-turn c = c .before .before .before
-
-returns : tie.Need-returns Inv-loop μ-loop
-returns c = rw (c .before .answer .given .1) at (c .before .before .before .walk-block .ensures)
+turn walked = search
 
 add-position : tie.Need-add-position Inv-loop μ-loop
-add-position c =
-    let t = turn (c .before .before) in
-    let small = position-small _ _ (entry t .pre) _ _ (inside t) (at t .1) in
-    omega (arith, small)
+add-position c = omega (arith, position-small (first-turn (block (turn (c .before .before)))))
 
 -- the block after the one of a turn
-next : (c : tie.After-block-end Inv-loop μ-loop) → let t = turn (c .before .before .before) in let n = counted t .instruction-index .result .0 in let e = c .block-end .result .0 in
-    (number t < e) × (e ≤ n) × (e < n → BlockAt e (head t .loop .position + 512))
-next c = let t = turn (c .before .before .before) in on (number t) _ _ _ (search needs) (at t) (c .block-end .ensures)
+abbrev walked : tie.After-block-end Inv-loop μ-loop → tie.After-walk-block Inv-loop μ-loop
+walked ended = search
+
+next : (c : tie.After-block-end Inv-loop μ-loop) → let head = head (turn (walked c)) in
+    Next (start-of head .args .file .now) (counted head .instruction-index .result .0)
+    (head .loop .i .0) (head .loop .position) (c .block-end .result .0)
+next c =
+    let turn = turn (walked c) in
+    next-block (block turn) (counted (head turn) .instruction-index .ensures) (c .block-end .ensures)
 
 loop-again : tie.Need-loop-again Inv-loop μ-loop
 loop-again c =
-    let w = c .before .before .before in
-    let t = turn w in
-    let e : blockEnd (number t) (length (code t)) ≡ c .block-end .result .0
-    = sym (c .block-end .ensures ∙ ap (blockEnd (number t)) (count-at (counted t))) in
-    let o = rw (c .before .enum-told .given .1, e) at (w .walk-block .ensures) in
-    (next c .1, next c .2, o .0, o .1)
+    let passed = c .before in
+    (next c .between, rw (passed .enum-told .given .1, next c .is-end) at (passed .before .before .walk-block .ensures))
 
 check-end-requires : tie.Need-check-end-requires Inv-loop μ-loop
 check-end-requires c κs =
-    let h = c .before .before .before in
-    let s = h .before .before .before .before .before .before .before in
-    let e : h .loop .i .0 ≡ length (codeOf (s .args .file .now)) = omega (arith, count-at (h .before .before .before .before .before)) in
-    (s .pre, rw e at (h .loop .inv .3))
+    let head : tie.At-loop Inv-loop μ-loop = search in
+    let at-end : head .loop .i .0 ≡ length (codeOf (start-of head .args .file .now)) = omega (arith, count head) in
+    record { accepted = start-of head .pre; passed = rw at-end at (head .loop .inv .1 .passed) }
 
 pub walk-spec : {M : Type 1} → statement M
-walk-spec =
-    tie.close
-    (tie.spec
-    Inv-loop
-    μ-loop
-    (λ c κs. search needs)
-    (λ c κs. (c .before .before .before .pre, (refl, λ j. none-marked j)))
-    (λ c κs. search needs)
-    (λ c κs. search needs)
-    loop-holds
-    walk-block-requires
-    (λ c. search needs)
-    returns
-    (λ c. search needs)
-    add-position
-    (λ c κs. search needs)
-    (λ c. omega (arith, next c .0, next c .1))
-    loop-again
-    check-end-requires
-    (λ c. c .check-end .ensures))
+walk-spec = tie.close (tie.spec
+    Inv-loop μ-loop
+    (search needs) (λ c κs. search none-marked) (search needs) (search needs) loop-holds
+    walk-block-requires (search needs) returns
+    (search needs) add-position (search needs) (λ c. omega (arith, next c)) loop-again
+    check-end-requires (λ c. c .check-end .ensures))

@@ -5,15 +5,17 @@ use Rattle.verifier.proofs.visits.add_pc.Statement.{statement}
 use Rattle.verifier.proofs.visits.add_pc.Tie as tie
 
 returns : tie.Need-returns
-returns c = c .set-value .ensures ∙ simp (c .before .before .bits2 .ensures, c .before .exactly .ensures, c .before .before .before .before .pc-sum .ensures, c .before .before .before .before .before .bits .ensures)
+returns c =
+    let known = c .before in
+    let rd = known .before in
+    let sum : tie.After-pc-sum = search in
+    c .set-value .ensures ∙ simp (
+      rd .bits2 .ensures,
+      known .exactly .ensures,
+      sum .pc-sum .ensures,
+      sum .before .bits .ensures,
+    )
 
 pub add-pc-spec : {M : Type 1} → statement M
-add-pc-spec =
-    tie.close
-    (tie.spec
-    (λ c κs. search needs)
-    (λ c κs. search needs)
-    (λ c κs. search needs)
-    (λ c κs. search needs)
-    (λ c κs. search needs)
-    returns)
+add-pc-spec = tie.close (tie.spec
+    (search needs) (search needs) (search needs) (search needs) (search needs) returns)

@@ -5,15 +5,11 @@ use Rattle.verifier.proofs.visits.move_imm.Statement.{statement}
 use Rattle.verifier.proofs.visits.move_imm.Tie as tie
 
 returns : tie.Need-returns
-returns c = c .set-value .ensures ∙ simp (c .before .before .bits2 .ensures, c .before .exactly .ensures, c .before .before .before .before .bits .ensures)
+returns c =
+    let known = c .before in
+    let rd = known .before in
+    c .set-value .ensures ∙ simp (rd .bits2 .ensures, known .exactly .ensures, rd .before .before .bits .ensures)
 
 pub move-imm-spec : {M : Type 1} → statement M
-move-imm-spec =
-    tie.close
-    (tie.spec
-    (λ c κs. search needs)
-    (λ c. search needs)
-    (λ c κs. search needs)
-    (λ c κs. search needs)
-    (λ c κs. search needs)
-    returns)
+move-imm-spec = tie.close (tie.spec
+    (search needs) (search needs) (search needs) (search needs) (search needs) returns)

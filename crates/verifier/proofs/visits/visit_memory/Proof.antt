@@ -5,11 +5,7 @@ use Rattle.verifier.proofs.visits.visit_memory.Statement.{statement}
 use Rattle.verifier.proofs.visits.visit_memory.Tie as tie
 
 pub visit-memory-spec : {M : Type 1} → statement M
-visit-memory-spec =
-    tie.close
-    (tie.spec
-    (λ c κs. search needs)
-    (λ c κs. (c .before .before .before .pre, omega (arith, c .before .before .bits .ensures)))
-    (λ c κs. (c .before .before .before .pre, omega (arith, c .before .before .bits .ensures)))
-    (λ c. c .visit-halfword .ensures)
-    (λ c. c .visit-byte .ensures))
+visit-memory-spec = tie.close (tie.spec
+    (search needs)
+    (λ c κs. (search, omega arith)) (λ c κs. (search, omega arith))
+    (λ c. c .visit-halfword .ensures) (λ c. c .visit-byte .ensures))
