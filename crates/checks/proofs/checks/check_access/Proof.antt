@@ -19,10 +19,6 @@ end s = s .args .base .high + s .args .offset + s .args .size
 abbrev windowEnd : tie.Start → ℕ
 windowEnd s = s .args .layout .«window_start» + s .args .layout .«window_length»
 
--- the function's entry, from where the data does not start below the window
-abbrev start-of : tie.Else1 → tie.Start
-start-of above = search
-
 returns : tie.Need-returns
 returns c =
     let start : tie.Start = search in
@@ -31,17 +27,19 @@ returns c =
 returns-2 : tie.Need-returns-2
 returns-2 c =
     let above = c .before in
-    let past : windowEnd (start-of above) < end (start-of above) = omega arith in
-    simp (positive (start-of above .pre), le-leb _ _ (above .if1 .left), lt-leb _ _ past)
+    let start : tie.Start = search in
+    let past : windowEnd start < end start = omega arith in
+    simp (positive (start .pre), le-leb _ _ (above .if1 .left), lt-leb _ _ past)
 
 returns-3 : tie.Need-returns-3
 returns-3 c =
     let halfword : tie.Then3 = search in
     let above : tie.Else1 = search in
-    let inside : end (start-of above) ≤ windowEnd (start-of above) = omega arith in
-    let few : start-of above .args .base .zeros < 2 = omega arith in
+    let start : tie.Start = search in
+    let inside : end start ≤ windowEnd start = omega arith in
+    let few : start .args .base .zeros < 2 = omega arith in
     simp (
-      positive (start-of above .pre),
+      positive (start .pre),
       le-leb _ _ (above .if1 .left),
       le-leb _ _ inside,
       eq-eqb _ _ (halfword .if3 .taken),
@@ -52,10 +50,11 @@ returns-4 : tie.Need-returns-4
 returns-4 c =
     let halfword : tie.Then3 = search in
     let above : tie.Else1 = search in
-    let inside : end (start-of above) ≤ windowEnd (start-of above) = omega arith in
-    let enough : 2 ≤ start-of above .args .base .zeros = omega arith in
+    let start : tie.Start = search in
+    let inside : end start ≤ windowEnd start = omega arith in
+    let enough : 2 ≤ start .args .base .zeros = omega arith in
     simp (
-      positive (start-of above .pre),
+      positive (start .pre),
       le-leb _ _ (above .if1 .left),
       le-leb _ _ inside,
       eq-eqb _ _ (halfword .if3 .taken),
@@ -65,8 +64,9 @@ returns-4 c =
 returns-5 : tie.Need-returns-5
 returns-5 c =
     let above : tie.Else1 = search in
-    let inside : end (start-of above) ≤ windowEnd (start-of above) = omega arith in
-    simp (positive (start-of above .pre), le-leb _ _ (above .if1 .left), le-leb _ _ inside, ne-eqb _ _ (c .if3 .left))
+    let start : tie.Start = search in
+    let inside : end start ≤ windowEnd start = omega arith in
+    simp (positive (start .pre), le-leb _ _ (above .if1 .left), le-leb _ _ inside, ne-eqb _ _ (c .if3 .left))
 
 pub check-access-spec : {M : Type 1} → statement M
 check-access-spec = tie.close (tie.spec

@@ -5,14 +5,14 @@ use Rattle.lines.proofs.verdicts.fit_line.Tie as tie
 
 returns : tie.Need-returns
 returns c =
-    let window = c .before in
-    let start = window .before in
-    let code = start .before in
+    let window-length = c .before in
+    let window-start = window-length .before in
+    let code = window-start .before in
     let word = code .before in
     let with-code = code .put-number .ensures .adds _ (word .line-of .ensures .is) in
-    let with-start = start .put-number2 .ensures .adds _ with-code in
-    let with-window = window .put-number3 .ensures .adds _ with-start in
-    (c .put .ensures .adds _ with-window, search needs)
+    let with-start = window-start .put-number2 .ensures .adds _ with-code in
+    let with-length = window-length .put-number3 .ensures .adds _ with-start in
+    (c .put .ensures .adds _ with-length, search needs)
 
 pub fit-line-spec : {M : Type 1} → statement M
 fit-line-spec = tie.close (tie.spec
