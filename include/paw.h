@@ -1,9 +1,10 @@
 /*
  * The proved firmware of the PAW service board, for C11 and C++11 and up. Link with libpaw.a.
  *
- * A program for the board travels as an image file: paw_pack makes one, paw_check reads what it
- * says of itself, paw_verify decides whether it can be run without harm, paw_load puts it into
- * memory if so, and paw_run runs it.
+ * A program for the board is written as text, of which paw_assemble makes code, and paw_list makes
+ * text of code. It travels as an image file: paw_pack makes one, paw_check reads what it says of
+ * itself, paw_verify decides whether it can be run without harm, paw_load puts it into memory if
+ * so, and paw_run runs it.
  *
  * For all functions:
  * - What a pointer points to is lent for the time of the call. The library keeps no pointer and
@@ -30,10 +31,10 @@ extern "C" {
 
 /* The version of this header; paw_version tells that of the library. */
 #define PAW_VERSION_MAJOR 0
-#define PAW_VERSION_MINOR 4
+#define PAW_VERSION_MINOR 5
 #define PAW_VERSION_PATCH 0
 
-/* The version as one number, larger for a later one, and as text, "0.4.0". */
+/* The version as one number, larger for a later one, and as text, "0.5.0". */
 #define PAW_VERSION (PAW_VERSION_MAJOR * 65536u + PAW_VERSION_MINOR * 256u + PAW_VERSION_PATCH)
 #define PAW_VERSION_STRING                                                                         \
     PAW_QUOTE(PAW_VERSION_MAJOR) "." PAW_QUOTE(PAW_VERSION_MINOR) "." PAW_QUOTE(PAW_VERSION_PATCH)
@@ -41,12 +42,14 @@ extern "C" {
 #define PAW_QUOTE_AS_IS(text) #text
 
 enum {
-    PAW_MEMORY_BYTES = 65536,  /* the whole address space */
-    PAW_BLOCK_BYTES = 512,     /* a block of an image */
-    PAW_BLOCK_HALFWORDS = 256, /* the same, as halfwords; the low byte of each comes first */
-    PAW_BLOCK_CODE = 249,      /* code halfwords that a block has room for */
+    PAW_MEMORY_BYTES = 65536,      /* the whole address space */
+    PAW_BLOCK_BYTES = 512,         /* a block of an image */
+    PAW_BLOCK_HALFWORDS = 256,     /* the same, as halfwords; the low byte of each comes first */
+    PAW_BLOCK_CODE = 249,          /* code halfwords that a block has room for */
     PAW_MAX_BLOCKS = 64,
-    PAW_MAX_CODE = 15936 /* code halfwords of an image: 64 times 249 */
+    PAW_MAX_CODE = 15936,          /* code halfwords of an image: 64 times 249 */
+    PAW_LISTING_PER_HALFWORD = 19, /* bytes of a listing, at most; paw_listing_room says why */
+    PAW_MAX_LISTING = 302784       /* the same for PAW_MAX_CODE halfwords */
 };
 
 /*
@@ -55,7 +58,7 @@ enum {
  * and what data they touched, see enum paw_touch.
  */
 enum paw_number {
-    PAW_OK = 0,             /* passed, loaded, packed, encoded or read */
+    PAW_OK = 0,             /* passed, loaded, packed, encoded, read, assembled or listed */
     PAW_MEMORY_SIZE = 1,    /* the memory does not have PAW_MEMORY_BYTES */
     PAW_FILE_LENGTH = 2,    /* the file is not 1 to 64 whole blocks */
     PAW_BLOCK_MARK = 3,     /* the block does not start with the mark 0xD0C1 */
@@ -70,9 +73,14 @@ enum paw_number {
     PAW_WRITES_PC = 12,     /* the instruction writes R15 */
     PAW_BRANCH_TARGET = 13, /* the branch leaves the code */
     PAW_LAST_NOT_HALT = 14, /* the last instruction is not HALT, whose note may be any */
-    PAW_CODE_LENGTH = 15,   /* the code to pack is not 1 to PAW_MAX_CODE halfwords long */
-    PAW_OUTPUT_LENGTH = 16, /* the output is not exactly the blocks that the code needs */
-    PAW_FIELDS = 17         /* the fields form no instruction */
+    PAW_CODE_LENGTH = 15,   /* the code is not 1 to PAW_MAX_CODE halfwords long, or the text has not
+                               so many instructions */
+    PAW_OUTPUT_LENGTH = 16, /* the output is not exactly the blocks that the code needs, or it is
+                               too short for an assembled code or for a listing */
+    PAW_FIELDS = 17,        /* the fields form no instruction */
+    PAW_SOURCE_LINE = 21,   /* the line is no instruction and no label, or has no line feed */
+    PAW_SOURCE_LABEL = 22,  /* the label is defined a second time, or nowhere */
+    PAW_SOURCE_VALUE = 23   /* the value, or the way to the label, does not fit its field */
 };
 
 /*
@@ -118,6 +126,9 @@ static inline const char *paw_text(uint32_t number)
     case PAW_STOP_ODD_PC: return "the program counter is odd";
     case PAW_STOP_UNDEFINED: return "the halfword at the program counter is no instruction";
     case PAW_STOP_MISALIGNED: return "the address of a halfword is not a multiple of 4";
+    case PAW_SOURCE_LINE: return "the line is no instruction and no label, or has no line feed";
+    case PAW_SOURCE_LABEL: return "the label is defined a second time, or nowhere";
+    case PAW_SOURCE_VALUE: return "the value, or the way to the label, does not fit its field";
     case PAW_HALT: return "halted";
     default: return "no number of an answer";
     }
@@ -494,6 +505,142 @@ static inline size_t paw_image_bytes(size_t code_len)
  */
 uint32_t paw_pack(const uint16_t *code, size_t code_len, uint16_t window_start,
                   uint16_t window_bytes, uint8_t *out, size_t out_len);
+
+/* Programs as text ------------------------------------------------------------------------- */
+
+/*
+ * A program as text is lines, each of them an instruction or a label. These are all forms:
+ *
+ *     line                          registers    n, or where the label may be
+ *     AND|EOR|ASR|TST|NEG Rd, Rs    R0 to R7
+ *     ADD|MOV|CMP Rd, Rs            R0 to R15
+ *     MOV|CMP Rd, #n                R0 to R7     0 to 255
+ *     ADD Rd, PC, #n                R0 to R7     0, 4, 8 .. 1020
+ *     STR|LDR Rd, [Rb, #n]          R0 to R7     0, 4, 8 .. 124
+ *     STRB|LDRB Rd, [Rb, #n]        R0 to R7     0 to 31
+ *     BEQ|BNE|..|BLE label                       from 256 bytes before the branch to 254 behind
+ *     HALT #n                                    0 to 255
+ *     label:
+ *
+ * - A line ends in a line feed, byte 10, also the last one. One space stands behind the name of an
+ *   instruction and behind each comma, none elsewhere. Letters are capitals but for labels.
+ * - Numbers are decimal, with no zero in front and no sign, and may have any number of digits. An
+ *   offset counts bytes, also where the field of the halfword counts fours of them.
+ * - A branch is named by its condition, see enum paw_condition. CMP of R0 to R7 alone is
+ *   PAW_KIND_CMP, with a higher register PAW_KIND_CMP_HIGH; ADD and MOV of two registers are
+ *   PAW_KIND_ADD_HIGH and PAW_KIND_MOV_HIGH, whichever they are. R15 is written PC in
+ *   ADD Rd, PC, #n, and R15 everywhere else.
+ * - A label begins with a small letter and goes on with up to seven small letters or digits. It is
+ *   the place of the instruction below it. Several may stand above one instruction, and some below
+ *   the last: a branch there assembles, but leaves the code.
+ */
+
+/*
+ * Makes code of a text of any length, and answers how many halfwords it wrote: one for each
+ * instruction, from the first element of `code` on. Elements behind them stay.
+ * paw_assembled_number, paw_assembled_halfwords and paw_assembled_line take the answer apart. Puts
+ * these checks, each to the whole text before the next:
+ *
+ *     21  PAW_SOURCE_LINE    has every line one of the forms, with registers that it can hold?
+ *     15  PAW_CODE_LENGTH    are there 1 to PAW_MAX_CODE instructions? Labels do not count.
+ *     22  PAW_SOURCE_LABEL   is a label defined here for the first time, and that of a branch
+ *                            somewhere, be it above or below?
+ *     23  PAW_SOURCE_VALUE   does the value fit, and is the label, where it is defined first, in
+ *                            reach of the branch?
+ *     16  PAW_OUTPUT_LENGTH  is `code_len` at least the number of instructions?
+ *
+ * 22 and 23 are put together, line by line: of two faults the upper one is told, whichever number
+ * it has. Does not verify the code.
+ *
+ * It takes 781,856 bytes of stack, nearly all of it a table of labels.
+ */
+uint64_t paw_assemble(const uint8_t *text, size_t text_len, uint16_t *code, size_t code_len);
+
+/* The number of an answer of paw_assemble: PAW_OK or the refusal's, 15, 16 or 21 to 23. */
+static inline uint16_t paw_assembled_number(uint64_t answer)
+{
+    return (uint16_t)answer;
+}
+
+/* The halfwords of an answer of paw_assemble whose number is PAW_OK: so many were written. */
+static inline size_t paw_assembled_halfwords(uint64_t answer)
+{
+    return (size_t)(answer >> 16);
+}
+
+/*
+ * The line of the text at which paw_assemble refused it by 21, 22 or 23, counted from 1; 0 for 15
+ * and 16, which are of no line. A line past 2^48 - 1 is told as that.
+ */
+static inline uint64_t paw_assembled_line(uint64_t answer)
+{
+    return answer >> 16;
+}
+
+/* What an answer of paw_assemble says, in words for people: paw_text, but 15 and 16 of a text. */
+static inline const char *paw_assembled_reason(uint64_t answer)
+{
+    switch (paw_assembled_number(answer)) {
+    case PAW_CODE_LENGTH: return "the text does not have 1 to 15,936 instructions";
+    case PAW_OUTPUT_LENGTH: return "the output is too short for the code";
+    default: return paw_text(paw_assembled_number(answer));
+    }
+}
+
+/*
+ * Writes code as a text, and answers how many bytes it wrote, from the first one of `text` on.
+ * Bytes behind them stay. paw_listed_number, paw_listed_bytes and paw_listed_address take the
+ * answer apart. The text has a line for each instruction, and before each instruction that a branch
+ * of the code goes to a label: the letter a and the instruction's byte address, as in a10. If the
+ * text is assembled, it gives the code back. Puts these checks:
+ *
+ *     15  PAW_CODE_LENGTH    is the code 1 to PAW_MAX_CODE halfwords long?
+ *      9  PAW_UNDEFINED      for each halfword, the first one first: is it an instruction?
+ *     13  PAW_BRANCH_TARGET  the same halfword, if a branch: does it stay within the code?
+ *     16  PAW_OUTPUT_LENGTH  has the text room? paw_listing_room is enough for any code.
+ *
+ * 9 and 13 are those of paw_verify; its other checks are not put.
+ *
+ * It takes 2,456 bytes of stack.
+ */
+uint64_t paw_list(const uint16_t *code, size_t code_len, uint8_t *text, size_t text_len);
+
+/* The number of an answer of paw_list: PAW_OK or the refusal's, 9, 13, 15 or 16. */
+static inline uint16_t paw_listed_number(uint64_t answer)
+{
+    return (uint16_t)answer;
+}
+
+/* The bytes of an answer of paw_list whose number is PAW_OK: so many were written. */
+static inline size_t paw_listed_bytes(uint64_t answer)
+{
+    return (size_t)(answer >> 16);
+}
+
+/* The byte address of the halfword that paw_list refused by 9 or 13; 0 for 15 and 16. */
+static inline uint16_t paw_listed_address(uint64_t answer)
+{
+    return (uint16_t)(answer >> 16);
+}
+
+/* What an answer of paw_list says, in words for people: paw_text, but 16 of a listing. */
+static inline const char *paw_listed_reason(uint64_t answer)
+{
+    uint32_t number = paw_listed_number(answer);
+    return number == PAW_OUTPUT_LENGTH ? "the output is too short for the listing"
+                                       : paw_text(number);
+}
+
+/*
+ * Bytes that the listing of so many halfwords has at most. The longest line of an instruction is
+ * "STRB R7, [R7, #31]" with its line feed, 19 bytes, and that of a label "a31870:", 8 bytes. But
+ * for a label there is a branch, whose line, "BEQ a31870", has 11: a branch and its label have no
+ * more than 19 together, and two branches need no second label. Codes of STRB alone are that long.
+ */
+static inline size_t paw_listing_room(size_t code_len)
+{
+    return code_len * PAW_LISTING_PER_HALFWORD;
+}
 
 #undef PAW_STATIC_ASSERT
 

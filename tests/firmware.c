@@ -1,7 +1,7 @@
 /*
  * The library as firmware uses it, through paw.h: the sample program P is packed, checked,
- * summed, verified, loaded and run, programs say by notes how they ended, and steps and runs what
- * data they touched. It is C11 and C++11 at once.
+ * summed, verified, loaded and run, programs say by notes how they ended, steps and runs what data
+ * they touched, and texts are assembled and codes listed. It is C11 and C++11 at once.
  *
  *     cc -std=c11 -Wall -Wextra -Werror -Iinclude tests/firmware.c target/staticlib/libpaw.a
  */
@@ -109,12 +109,12 @@ static void test_version(void)
     EXPECT(strcmp(date, "20 September 2015") == 0);
 }
 
-/* 1 to 20 and HALT have texts of their own, and whatever else comes has one too. */
+/* 1 to 23 and HALT have texts of their own, and whatever else comes has one too. */
 static void test_texts(void)
 {
-    const char *unknown = paw_text(21);
+    const char *unknown = paw_text(24);
     for (uint32_t number = 0; number <= 300; number++) {
-        bool named = number <= 20 || number == PAW_HALT;
+        bool named = number <= 23 || number == PAW_HALT;
         EXPECT((strcmp(paw_text(number), unknown) != 0) == named);
         for (uint32_t other = 0; named && other < number; other++) {
             EXPECT(strcmp(paw_text(number), paw_text(other)) != 0);
@@ -709,6 +709,581 @@ static void test_touched_by_p(void)
     EXPECT(memory[paw_touched_address(halted)] == 252);
 }
 
+/* Texts and listings ------------------------------------------------------------------------ */
+
+/* What is assembled and listed, with an element and a byte more than the library is lent. */
+static uint16_t assembled[PAW_MAX_CODE + 1];
+static uint8_t listing[PAW_MAX_LISTING + 1];
+
+enum { ROOM = PAW_MAX_CODE };
+
+/* Assembles a text into `room` elements, which were all 0xEEEE before. */
+static uint64_t assemble_bytes(const uint8_t *text, size_t text_len, size_t room)
+{
+    memset(assembled, 0xEE, sizeof assembled);
+    return paw_assemble(text, text_len, assembled, room);
+}
+
+static uint64_t assemble(const char *text)
+{
+    return assemble_bytes((const uint8_t *)text, strlen(text), ROOM);
+}
+
+/* Are all elements from `first` on what they were? */
+static bool code_untouched_from(size_t first)
+{
+    return all_are((const uint8_t *)(assembled + first), sizeof assembled - 2 * first, 0xEE);
+}
+
+/* The answer says that so many were written, and no more were. */
+static void expect_assembled(uint64_t answer, size_t halfwords)
+{
+    EXPECT(paw_assembled_number(answer) == PAW_OK);
+    EXPECT(paw_assembled_halfwords(answer) == halfwords);
+    EXPECT(answer == (uint64_t)halfwords << 16);
+    EXPECT(code_untouched_from(halfwords));
+}
+
+/* The answer is that refusal, and nothing was written. */
+static void expect_refused(uint64_t answer, uint32_t number, uint64_t line)
+{
+    EXPECT(paw_assembled_number(answer) == number && paw_assembled_line(answer) == line);
+    EXPECT(answer == (number | line << 16));
+    EXPECT(code_untouched_from(0));
+}
+
+static void refuse(const char *text, uint32_t number, uint64_t line)
+{
+    expect_refused(assemble(text), number, line);
+}
+
+/* The line is refused by that number, alone and among others. */
+static void refuse_line(const char *line, uint32_t number)
+{
+    char text[256];
+    snprintf(text, sizeof text, "%s\n", line);
+    refuse(text, number, 1);
+    snprintf(text, sizeof text, "start:\nMOV R0, #7\n%s\nBEQ start\nHALT #0\n", line);
+    refuse(text, number, 3);
+}
+
+/* Lists into `room` bytes. What it does not tell to have written must stay. */
+static uint64_t list(const uint16_t *halfwords, size_t len, size_t room)
+{
+    memset(listing, 0xEE, sizeof listing);
+    uint64_t answer = paw_list(halfwords, len, listing, room);
+    size_t written = paw_listed_number(answer) == PAW_OK ? paw_listed_bytes(answer) : 0;
+    EXPECT(written <= room);
+    EXPECT(all_are(listing + written, sizeof listing - written, 0xEE));
+    return answer;
+}
+
+/* Is that the listing of these halfwords, which gives them back? */
+static void expect_listing(const uint16_t *halfwords, size_t len, const char *text)
+{
+    size_t bytes = strlen(text);
+    EXPECT(list(halfwords, len, bytes) == (uint64_t)bytes << 16);
+    EXPECT(memcmp(listing, text, bytes) == 0);
+    expect_assembled(assemble_bytes(listing, bytes, len), len);
+    EXPECT(memcmp(assembled, halfwords, 2 * len) == 0);
+}
+
+/* Every form with its registers and values at both ends, and what the lister writes of it. */
+static const struct form {
+    const char *line;
+    uint16_t halfword;
+} forms[] = {
+    {"MOV R0, #0", 0x2000},
+    {"MOV R7, #255", 0x27FF},
+    {"CMP R0, #0", 0x2800},
+    {"CMP R7, #255", 0x2FFF},
+    {"AND R0, R7", 0x4038},
+    {"EOR R7, R0", 0x4047},
+    {"ASR R1, R2", 0x4091},
+    {"TST R2, R1", 0x40CA},
+    {"NEG R7, R7", 0x413F},
+    {"CMP R0, R0", 0x4140},
+    {"CMP R7, R6", 0x4177},
+    {"ADD R0, R0", 0x4400},
+    {"ADD R7, R8", 0x4447},
+    {"ADD R10, R3", 0x449A},
+    {"ADD R15, R15", 0x44FF},
+    {"CMP R0, R8", 0x4540},
+    {"CMP R8, R0", 0x4580},
+    {"CMP R15, R14", 0x45F7},
+    {"MOV R0, R1", 0x4608},
+    {"MOV R9, R10", 0x46D1},
+    {"MOV R15, R0", 0x4687},
+    {"STR R1, [R0, #4]", 0x6041},
+    {"STR R7, [R0, #124]", 0x67C7},
+    {"LDR R0, [R7, #0]", 0x6838},
+    {"LDR R3, [R4, #64]", 0x6C23},
+    {"STRB R0, [R1, #31]", 0x77C8},
+    {"STRB R7, [R7, #1]", 0x707F},
+    {"LDRB R2, [R5, #0]", 0x782A},
+    {"LDRB R6, [R0, #30]", 0x7F86},
+    {"ADD R0, PC, #4", 0xA001},
+    {"ADD R7, PC, #1020", 0xA7FF},
+    {"ADD R3, PC, #0", 0xA300},
+    {"HALT #0", 0x0000},
+    {"HALT #7", 0x0007},
+    {"HALT #255", 0x00FF},
+};
+
+enum { FORMS = sizeof forms / sizeof forms[0] };
+
+static void test_forms(void)
+{
+    for (size_t i = 0; i < FORMS; i++) {
+        char text[32];
+        snprintf(text, sizeof text, "%s\n", forms[i].line);
+        expect_assembled(assemble(text), 1);
+        EXPECT(assembled[0] == forms[i].halfword);
+        expect_listing(&forms[i].halfword, 1, text);
+    }
+}
+
+/* Every condition: ahead, back and to itself. The last is the manual's own way to write one. */
+static void test_branch_lines(void)
+{
+    for (uint32_t condition = PAW_EQ; condition <= PAW_LE; condition++) {
+        char text[64];
+        const char *name = paw_condition_name(condition);
+        const uint16_t ahead[] = {(uint16_t)(0xD002 | condition << 8), 0x2001, 0};
+        snprintf(text, sizeof text, "B%s a4\nMOV R0, #1\na4:\nHALT #0\n", name);
+        expect_listing(ahead, 3, text);
+        const uint16_t back[] = {0x2001, (uint16_t)(0xD0FF | condition << 8), 0};
+        snprintf(text, sizeof text, "a0:\nMOV R0, #1\nB%s a0\nHALT #0\n", name);
+        expect_listing(back, 3, text);
+        const uint16_t still[] = {0x2001, (uint16_t)(0xD000 | condition << 8)};
+        snprintf(text, sizeof text, "MOV R0, #1\na2:\nB%s a2\n", name);
+        expect_listing(still, 2, text);
+    }
+    expect_assembled(assemble("BEQ a10\nHALT #1\nHALT #2\nHALT #3\nHALT #4\na10:\nHALT #5\n"), 6);
+    EXPECT(assembled[0] == 0xD005 && assembled[5] == 0x0005);
+}
+
+/* What is nearly a line. */
+static void test_no_lines(void)
+{
+    static const char *const lines[] = {
+        "", " ", ":", "\t", "\r", "#", "; a note", "\x80", "\xFF",
+        /* names */
+        "NOP", "mov R0, #1", "MOv R0, #1", "MOVE R0, #1", "MO R0, #1", "ADND R0, R1", "B a",
+        "BAL start", "BEQ", "BEQ ", "BEQA", "Beq start", "BNV start", "HALT", "HALTS #0",
+        "SUB R0, R1", "LDRH R0, [R1, #0]", "STRBB R0, [R1, #0]", "STRB", "AND", "AND ",
+        /* spaces and commas */
+        " MOV R0, #1", "MOV  R0, #1", "MOV R0,  #1", "MOV R0,#1", "MOV R0 , #1", "MOV R0, #1 ",
+        "MOV R0, # 1", "MOVR0, #1", "MOV\tR0, #1", "MOV R0,\t#1", "MOV R0, #1\r", "MOV R0 #1",
+        "HALT  #0", "HALT#0", "BEQ  start", "BEQ start ", "STR R1, [R0,#4]", "STR R1, [ R0, #4]",
+        "STR R1, [R0, #4 ]",
+        /* registers */
+        "MOV R16, R0", "MOV R0, R16", "MOV R01, R0", "MOV R0, R00", "MOV R, R0", "MOV r0, R1",
+        "ADD R0, R99", "MOV R-1, R0", "MOV R0, 1", "MOV 0, #1", "MOV R8, #1", "CMP R15, #0",
+        "MOV R10, #1", "MOV R8, #256", "AND R8, R0", "AND R0, R8", "EOR R15, R1", "ASR R0, R10",
+        "TST R8, R8", "NEG R0, R12", "STR R8, [R0, #0]", "STR R0, [R8, #0]", "LDR R0, [R15, #0]",
+        "STRB R10, [R0, #0]", "LDRB R0, [R9, #0]", "ADD R8, PC, #4",
+        "MOV R1000000000000000000000, R0",
+        /* PC */
+        "ADD R0, R15, #4", "ADD R0, PC", "ADD PC, R0", "MOV R0, PC", "MOV PC, R0", "CMP PC, #0",
+        "ADD R0, PC, 4", "ADD R0, PC,#4", "ADD PC, PC, #4", "LDR R0, [PC, #4]", "ADD R0, SP, #4",
+        /* numbers */
+        "MOV R0, #", "MOV R0, #00", "MOV R0, #01", "MOV R0, #-1", "MOV R0, #+1", "MOV R0, #0x1",
+        "MOV R0, #1a", "MOV R0, #A", "HALT #00", "HALT #1.", "HALT #1, #2", "HALT R0",
+        "STR R1, [R0, #04]", "ADD R0, PC, #00",
+        /* brackets */
+        "STR R1, [R0]", "STR R1, [R0, #4", "STR R1, R0, #4]", "STR R1, R0", "STR R1, [R0, R2]",
+        "STR R1, [R0, #4]]", "STR R1, [R0, #]", "LDR R1, (R0, #4)",
+        /* labels */
+        "a", "a::", "a :", "a: ", ":a", "1:", "1a:", "A:", "aB:", "a_b:", "a-b:", "a.b:",
+        "abcdefghi:", "a123456789:", "\xE4:", "a\x80:", " a:", "a:HALT #0", "a: HALT #0", "BEQ a:",
+        "BEQ A", "BEQ 1a", "BEQ abcdefghi", "BEQ 10", "BEQ #4", "BEQ start, start",
+    };
+    for (size_t i = 0; i < sizeof lines / sizeof lines[0]; i++) {
+        refuse_line(lines[i], PAW_SOURCE_LINE);
+    }
+}
+
+/* Every byte in places where few may stand. */
+static void test_bytes(void)
+{
+    for (unsigned byte = 0; byte < 256; byte++) {
+        const uint8_t b = (uint8_t)byte;
+        const uint8_t number[] = {'H', 'A', 'L', 'T', ' ', '#', b, '\n'};
+        const uint8_t label[] = {b, ':', '\n', 'H', 'A', 'L', 'T', ' ', '#', '0', '\n'};
+        const uint8_t longer[] = {'a', b, ':', '\n', 'H', 'A', 'L', 'T', ' ', '#', '0', '\n'};
+        bool digit = byte >= '0' && byte <= '9', letter = byte >= 'a' && byte <= 'z';
+        uint64_t one = 1 << 16, no_line = PAW_SOURCE_LINE | 1 << 16;
+        EXPECT(assemble_bytes(number, sizeof number, ROOM) == (digit ? one : no_line));
+        EXPECT(assemble_bytes(label, sizeof label, ROOM) == (letter ? one : no_line));
+        EXPECT(assemble_bytes(longer, sizeof longer, ROOM) == (letter || digit ? one : no_line));
+    }
+}
+
+static const char text_of_p[] = "MOV R1, #252\n"
+                                "AND R0, R1\n"
+                                "MOV R2, #128\n"
+                                "ADD R2, R2\n"
+                                "ADD R0, R2\n"
+                                "STR R1, [R0, #0]\n"
+                                "HALT #0\n";
+
+/* P's text and all that it can be cut to: whole lines are a program, but for none of them. */
+static void test_line_feeds(void)
+{
+    size_t lines = 0;
+    for (size_t len = 0; len < sizeof text_of_p; len++) {
+        uint64_t answer = assemble_bytes((const uint8_t *)text_of_p, len, ROOM);
+        bool whole = len == 0 || text_of_p[len - 1] == '\n';
+        lines += len != 0 && whole;
+        if (!whole) {
+            expect_refused(answer, PAW_SOURCE_LINE, lines + 1);
+        } else if (len == 0) {
+            expect_refused(answer, PAW_CODE_LENGTH, 0);
+        } else {
+            expect_assembled(answer, lines);
+            EXPECT(memcmp(assembled, code, 2 * lines) == 0);
+        }
+    }
+    EXPECT(lines == CODE_LEN);
+    refuse("HALT #0\na:", PAW_SOURCE_LINE, 2);
+    refuse("HALT #0\n\n", PAW_SOURCE_LINE, 2);
+    refuse("HALT #0\nhalt\nHALT #0", PAW_SOURCE_LINE, 2);
+    refuse("HALT #256\nBEQ a\nHALT #0", PAW_SOURCE_LINE, 3);
+    expect_listing(code, CODE_LEN, text_of_p);
+}
+
+/* A text that is made by the test, and the line that comes next in it. */
+static uint8_t source[1 << 20];
+static size_t source_len;
+static uint64_t next_line;
+
+static void begin_source(void)
+{
+    source_len = 0;
+    next_line = 1;
+}
+
+static void add_text(const char *text)
+{
+    for (; *text != 0; text++) {
+        source[source_len++] = (uint8_t)*text;
+        next_line += *text == '\n';
+    }
+}
+
+static void add_lines(const char *line, size_t times)
+{
+    while (times-- > 0) {
+        add_text(line);
+    }
+}
+
+/* A label of eight letters, another one for each number. */
+static void add_name(uint32_t number)
+{
+    for (unsigned i = 0; i < 8; i++, number /= 26) {
+        source[source_len++] = (uint8_t)('a' + number % 26);
+    }
+}
+
+static uint64_t assemble_source(size_t room)
+{
+    return assemble_bytes(source, source_len, room);
+}
+
+/* What fits no field, from the next value on and where a value would wrap to one that fits. */
+static void test_values(void)
+{
+    static const char *const lines[] = {
+        "MOV R0, #256", "CMP R7, #256", "HALT #256", "STRB R0, [R1, #32]", "LDRB R0, [R1, #32]",
+        "STR R0, [R1, #128]", "LDR R0, [R1, #128]", "ADD R0, PC, #1024", "MOV R0, #999",
+        /* in fours */
+        "STR R0, [R1, #1]", "LDR R0, [R1, #2]", "STR R0, [R1, #3]", "LDR R0, [R1, #122]",
+        "STR R0, [R1, #125]", "ADD R0, PC, #2", "ADD R0, PC, #1018", "ADD R0, PC, #1021",
+        /* 2 to the 16, 32, 64 and 128, and 4 more */
+        "HALT #65536", "MOV R0, #4294967296", "CMP R0, #18446744073709551616",
+        "STR R0, [R1, #65540]", "LDR R0, [R1, #4294967300]", "STRB R0, [R1, #18446744073709551620]",
+        "ADD R0, PC, #18446744073709551620", "HALT #340282366920938463463374607431768211456",
+    };
+    for (size_t i = 0; i < sizeof lines / sizeof lines[0]; i++) {
+        refuse_line(lines[i], PAW_SOURCE_VALUE);
+    }
+}
+
+/* 6,000 digits: all of them nines, and a power of ten, of which any power of two leaves 0. */
+static void test_long_numbers(void)
+{
+    static const char *const starts[] = {"HALT #", "MOV R3, #", "ADD R1, PC, #", "LDRB R1, [R2, #"};
+    for (size_t i = 0; i < sizeof starts / sizeof starts[0]; i++) {
+        for (unsigned nines = 0; nines < 2; nines++) {
+            begin_source();
+            add_text("HALT #0\n");
+            add_text(starts[i]);
+            add_text(nines ? "9" : "1");
+            add_lines(nines ? "9" : "0", 5999);
+            add_text(i == 3 ? "]\n" : "\n");
+            expect_refused(assemble_source(ROOM), PAW_SOURCE_VALUE, 2);
+            source_len -= 1; /* the line feed */
+            expect_refused(assemble_source(ROOM), PAW_SOURCE_LINE, 2);
+        }
+    }
+}
+
+/* Branches over so many instructions, ahead and back. Labels on the way take no room. */
+static void test_reach(void)
+{
+    for (size_t n = 1; n <= 300; n++) {
+        begin_source();
+        add_text("BEQ there\na:\nb:\n");
+        add_lines("HALT #0\n", n - 1);
+        add_text("c:\nthere:\nHALT #1\n");
+        if (n <= 127) {
+            expect_assembled(assemble_source(ROOM), n + 1);
+            EXPECT(assembled[0] == (0xD000 | n) && assembled[n] == 0x0001);
+        } else {
+            expect_refused(assemble_source(ROOM), PAW_SOURCE_VALUE, 1);
+        }
+        begin_source();
+        add_text("HALT #0\nthere:\na:\n");
+        add_lines("HALT #0\n", n);
+        uint64_t line = next_line;
+        add_text("BLE there\nc:\n");
+        if (n <= 128) {
+            expect_assembled(assemble_source(ROOM), n + 2);
+            EXPECT(assembled[n + 1] == (0xDD00 | (256 - n)));
+        } else {
+            expect_refused(assemble_source(ROOM), PAW_SOURCE_VALUE, line);
+        }
+    }
+}
+
+static void test_labels(void)
+{
+    refuse("a:\nHALT #0\na:\n", PAW_SOURCE_LABEL, 3);
+    refuse("BEQ b\nHALT #0\n", PAW_SOURCE_LABEL, 1);
+    refuse("BEQ b\na:\na:\nHALT #0\n", PAW_SOURCE_LABEL, 1);
+    refuse("a:\na:\nBEQ b\nHALT #0\n", PAW_SOURCE_LABEL, 2);
+    refuse("a:\nb:\nb:\na:\nHALT #0\n", PAW_SOURCE_LABEL, 3);
+    refuse("abcdefg:\nBEQ abcdefgh\n", PAW_SOURCE_LABEL, 2);
+    refuse("a1:\nBEQ a01\n", PAW_SOURCE_LABEL, 2); /* labels are no numbers */
+
+    expect_assembled(assemble("a:\naa:\na0:\na00:\nabcdefgh:\nHALT #0\nBEQ abcdefgh\nb:\n"), 2);
+    EXPECT(assembled[0] == 0x0000 && assembled[1] == 0xD0FF);
+    expect_assembled(assemble("z9999999:\nBNE z9999999\n"), 1);
+    EXPECT(assembled[0] == 0xD100);
+
+    /* behind the last instruction: assembled, and refused by those who ask where it goes */
+    expect_assembled(assemble("BEQ end\nHALT #0\nend:\n"), 2);
+    EXPECT(assembled[0] == 0xD002);
+    EXPECT(paw_list(assembled, 2, listing, sizeof listing) == PAW_BRANCH_TARGET);
+
+    /* a branch goes to the first definition, and is measured to it */
+    begin_source();
+    add_text("a:\n");
+    add_lines("HALT #0\n", 129);
+    add_text("BEQ a\na:\nHALT #0\n");
+    expect_refused(assemble_source(ROOM), PAW_SOURCE_VALUE, 131);
+}
+
+/* More labels than there may be instructions, above one of these, then one of them again. */
+static void test_many_labels(void)
+{
+    enum { MANY = 32600 }; /* a few more than the library's table holds, which takes its time */
+    static const uint32_t twice[] = {0, MANY - 1};
+    begin_source();
+    for (uint32_t i = 0; i < MANY; i++) {
+        add_name(i);
+        add_text(":\n");
+    }
+    add_text("HALT #0\n");
+    size_t len = source_len;
+    expect_assembled(assemble_source(1), 1);
+    for (size_t i = 0; i < sizeof twice / sizeof twice[0]; i++) {
+        source_len = len;
+        add_text("BEQ ");
+        add_name(twice[i]);
+        add_text("\n");
+        expect_assembled(assemble_source(2), 2);
+        EXPECT(assembled[1] == 0xD0FF);
+        add_name(twice[i]);
+        add_text(":\n");
+        expect_refused(assemble_source(2), PAW_SOURCE_LABEL, MANY + 3);
+    }
+    source_len = len;
+    add_text("BEQ ");
+    add_name(MANY);
+    add_text("\n");
+    expect_refused(assemble_source(2), PAW_SOURCE_LABEL, MANY + 2);
+}
+
+/* 21 over the whole text, then 15, then 22 and 23 by line, then 16. */
+static void test_order(void)
+{
+    refuse("", PAW_CODE_LENGTH, 0);
+    refuse("a:\n", PAW_CODE_LENGTH, 0);
+    refuse("a:\na:\n", PAW_CODE_LENGTH, 0);
+    refuse("HALT #256\nBEQ b\na:\na:\nbad\n", PAW_SOURCE_LINE, 5);
+    refuse("HALT #256\na:\na:\nBEQ b\n", PAW_SOURCE_VALUE, 1);
+    refuse("a:\na:\nHALT #256\nBEQ b\n", PAW_SOURCE_LABEL, 2);
+    refuse("BEQ b\na:\na:\nHALT #256\n", PAW_SOURCE_LABEL, 1);
+    refuse("a:\nHALT #0\nHALT #256\nBEQ b\n", PAW_SOURCE_VALUE, 3);
+
+    const uint8_t *two = (const uint8_t *)"HALT #0\nHALT #1\n";
+    const uint8_t *bad = (const uint8_t *)"HALT #256\n";
+    expect_refused(assemble_bytes(two, 16, 0), PAW_OUTPUT_LENGTH, 0);
+    expect_refused(assemble_bytes(two, 16, 1), PAW_OUTPUT_LENGTH, 0);
+    expect_assembled(assemble_bytes(two, 16, 2), 2);
+    expect_assembled(assemble_bytes(two, 16, 3), 2);
+    expect_refused(assemble_bytes(bad, 10, 0), PAW_SOURCE_VALUE, 1);
+    expect_refused(assemble_bytes(bad, 9, 0), PAW_SOURCE_LINE, 1);
+    expect_refused(assemble_bytes(bad, 0, 0), PAW_CODE_LENGTH, 0);
+}
+
+/* As many instructions as there may be, each with a label, and one more. */
+static void test_longest_texts(void)
+{
+    begin_source();
+    for (uint32_t i = 0; i < PAW_MAX_CODE; i++) {
+        add_name(i);
+        add_text(":\nBEQ ");
+        add_name(i < 128 ? 0 : i - 128);
+        add_text("\n");
+    }
+    add_text("end:\n");
+    const size_t len = source_len;
+    const uint64_t lines = next_line - 1;
+    expect_assembled(assemble_source(ROOM), PAW_MAX_CODE);
+    for (size_t i = 0; i < PAW_MAX_CODE; i++) {
+        EXPECT(assembled[i] == (i < 128 ? 0xD000 | ((256 - i) & 255) : 0xD080));
+    }
+    expect_refused(assemble_source(ROOM - 1), PAW_OUTPUT_LENGTH, 0);
+
+    add_text("BEQ nowhere\n");
+    expect_refused(assemble_source(ROOM), PAW_CODE_LENGTH, 0);
+    add_text("HALT #256\nBEQ end\nend:\nhalt\n");
+    expect_refused(assemble_source(ROOM), PAW_SOURCE_LINE, lines + 5);
+
+    source_len = len;
+    add_text("end:\n");
+    expect_refused(assemble_source(ROOM), PAW_SOURCE_LABEL, lines + 1);
+}
+
+/* Refusals of the lister, and its room: exactly enough, a byte less, and more. */
+static void test_listing(void)
+{
+    static const uint16_t undefined[] = {0x2000, 0x0100}, past[] = {0xD001};
+    static const uint16_t back[] = {0xD0FF, 0x0000}; /* to the address before 0 */
+    static const uint16_t both[] = {0xD005, 0x0100}, other_way[] = {0x0100, 0xD0FF};
+    EXPECT(list(code, 0, ROOM) == PAW_CODE_LENGTH);
+    EXPECT(list(assembled, PAW_MAX_CODE + 1, ROOM) == PAW_CODE_LENGTH);
+    EXPECT(list(undefined, 2, ROOM) == (PAW_UNDEFINED | 2 << 16));
+    EXPECT(list(undefined, 1, ROOM) == (uint64_t)11 << 16);
+    EXPECT(list(past, 1, ROOM) == PAW_BRANCH_TARGET);
+    EXPECT(list(back, 2, ROOM) == PAW_BRANCH_TARGET);
+    EXPECT(list(both, 2, ROOM) == PAW_BRANCH_TARGET);
+    EXPECT(list(other_way, 2, ROOM) == PAW_UNDEFINED);
+    EXPECT(paw_listed_address(list(undefined, 2, 0)) == 2);
+
+    const size_t bytes = sizeof text_of_p - 1;
+    EXPECT(list(code, CODE_LEN, 0) == PAW_OUTPUT_LENGTH);
+    EXPECT(list(code, CODE_LEN, bytes - 1) == PAW_OUTPUT_LENGTH);
+    EXPECT(list(code, CODE_LEN, bytes + 1) == (uint64_t)bytes << 16);
+    EXPECT(paw_listed_bytes(list(code, CODE_LEN, sizeof listing)) == bytes);
+    EXPECT(memcmp(listing, text_of_p, bytes) == 0);
+}
+
+/* Every halfword between two rows of others: what is listed gives it back. */
+static void test_listing_halfwords(void)
+{
+    enum { ROW = 128, LEN = 2 * ROW };
+    static uint16_t row[LEN];
+    for (uint32_t halfword = 0; halfword <= 0xFFFF; halfword++) {
+        row[ROW] = (uint16_t)halfword;
+        uint64_t answer = paw_list(row, LEN, listing, sizeof listing);
+        if (paw_decode(row[ROW]) == PAW_KIND_NONE) {
+            EXPECT(answer == (PAW_UNDEFINED | 2 * ROW << 16));
+        } else {
+            EXPECT(paw_listed_number(answer) == PAW_OK);
+            EXPECT(assemble_bytes(listing, paw_listed_bytes(answer), LEN) == LEN << 16);
+            EXPECT(memcmp(assembled, row, sizeof row) == 0);
+        }
+    }
+}
+
+/* Long codes of every kind, with branches within them: the listing gives them back. */
+static void test_round_trip(void)
+{
+    static uint16_t long_code[PAW_MAX_CODE];
+    static const size_t lengths[] = {1, 2, 249, 5001, PAW_MAX_CODE};
+    uint32_t state = 1;
+    for (size_t i = 0; i < sizeof lengths / sizeof lengths[0]; i++) {
+        const size_t len = lengths[i];
+        for (size_t k = 0; k < len;) {
+            state = state * 1664525 + 1013904223;
+            const uint16_t h = (uint16_t)(state >> 16);
+            const size_t target = k + (size_t)(int8_t)h;
+            if (paw_decode(h) != PAW_KIND_NONE && (h >> 12 != 0xD || target < len)) {
+                long_code[k++] = h;
+            }
+        }
+        uint64_t answer = list(long_code, len, paw_listing_room(len));
+        EXPECT(paw_listed_number(answer) == PAW_OK);
+        expect_assembled(assemble_bytes(listing, paw_listed_bytes(answer), len), len);
+        EXPECT(memcmp(assembled, long_code, 2 * len) == 0);
+    }
+}
+
+/* The longest listings: of stores, and of branches that each have a label. */
+static void test_longest_listings(void)
+{
+    static uint16_t long_code[PAW_MAX_CODE];
+    EXPECT(paw_listing_room(PAW_MAX_CODE) == PAW_MAX_LISTING);
+    for (size_t i = 0; i < PAW_MAX_CODE; i++) {
+        long_code[i] = 0x77FF; /* STRB R7, [R7, #31] */
+    }
+    uint64_t answer = list(long_code, PAW_MAX_CODE, PAW_MAX_LISTING);
+    EXPECT(paw_listed_number(answer) == PAW_OK && paw_listed_bytes(answer) == PAW_MAX_LISTING);
+    EXPECT(list(long_code, PAW_MAX_CODE, PAW_MAX_LISTING - 1) == PAW_OUTPUT_LENGTH);
+
+    for (size_t i = 0; i < PAW_MAX_CODE; i++) {
+        long_code[i] = 0xD000; /* BEQ, to itself */
+    }
+    answer = list(long_code, PAW_MAX_CODE, PAW_MAX_LISTING);
+    /* 19 bytes for five digits of the address, 17 for four, and so on; the even ones of each */
+    EXPECT(paw_listed_bytes(answer) == 19 * 10936 + 17 * 4500 + 15 * 450 + 13 * 45 + 11 * 5);
+    expect_assembled(assemble_bytes(listing, paw_listed_bytes(answer), ROOM), PAW_MAX_CODE);
+    EXPECT(memcmp(assembled, long_code, sizeof long_code) == 0);
+}
+
+/* Answers with as much in them as there may be, and what they say in words. */
+static void test_source_answers(void)
+{
+    const uint64_t last_line = UINT64_MAX << 16 | PAW_SOURCE_LABEL;
+    EXPECT(paw_assembled_number(last_line) == PAW_SOURCE_LABEL);
+    EXPECT(paw_assembled_line(last_line) == ((uint64_t)1 << 48) - 1);
+    EXPECT(paw_assembled_halfwords((uint64_t)PAW_MAX_CODE << 16) == PAW_MAX_CODE);
+    EXPECT(paw_listed_bytes((uint64_t)PAW_MAX_LISTING << 16) == PAW_MAX_LISTING);
+    EXPECT(paw_listed_address(PAW_UNDEFINED | (uint64_t)31870 << 16) == 31870);
+
+    static const uint32_t numbers[] = {PAW_OK, PAW_UNDEFINED, PAW_BRANCH_TARGET, PAW_CODE_LENGTH,
+                                       PAW_OUTPUT_LENGTH, PAW_SOURCE_LINE, PAW_SOURCE_LABEL,
+                                       PAW_SOURCE_VALUE};
+    for (size_t i = 0; i < sizeof numbers / sizeof numbers[0]; i++) {
+        const uint64_t answer = numbers[i] | (uint64_t)7 << 16;
+        const bool room = numbers[i] == PAW_OUTPUT_LENGTH, length = numbers[i] == PAW_CODE_LENGTH;
+        const char *words = paw_text(numbers[i]);
+        EXPECT((strcmp(paw_assembled_reason(answer), words) == 0) == !(room || length));
+        EXPECT((strcmp(paw_listed_reason(answer), words) == 0) == !room);
+    }
+    EXPECT(strcmp(paw_assembled_reason(assemble("")),
+                  "the text does not have 1 to 15,936 instructions") == 0);
+    EXPECT(strcmp(paw_assembled_reason(PAW_OUTPUT_LENGTH),
+                  "the output is too short for the code") == 0);
+    EXPECT(strcmp(paw_listed_reason(list(code, CODE_LEN, 1)),
+                  "the output is too short for the listing") == 0);
+}
+
 int main(void)
 {
     test_version();
@@ -739,8 +1314,26 @@ int main(void)
     test_touched_addresses();
     test_touched_by_runs();
     test_touched_by_p();
+    test_forms();
+    test_branch_lines();
+    test_no_lines();
+    test_bytes();
+    test_line_feeds();
+    test_values();
+    test_long_numbers();
+    test_reach();
+    test_labels();
+    test_many_labels();
+    test_order();
+    test_longest_texts();
+    test_listing();
+    test_listing_halfwords();
+    test_round_trip();
+    test_longest_listings();
+    test_source_answers();
     if (failures == 0) {
-        printf("firmware in " LANGUAGE ": P packs, verifies, loads and runs through paw.h\n");
+        printf("firmware in " LANGUAGE
+               ": P assembles, lists, packs, verifies, loads and runs through paw.h\n");
     }
     return failures != 0;
 }

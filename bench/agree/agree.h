@@ -12,6 +12,10 @@ void compare_steps(long cases);
 void compare_images(long cases);
 void compare_short_codes(void);
 void compare_facts(long cases);
+void compare_texts(long cases);
+void compare_many_labels(void);
+void compare_listings(long cases);
+void compare_listed_halfwords(void);
 
 /* A memory for each engine; makers that do not run use the first ones. */
 extern uint8_t memories[ENGINES][PAW_MEMORY_BYTES];

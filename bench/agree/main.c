@@ -1,6 +1,7 @@
 /*
- * Holds every peer to libpaw.a on the same work: answers, registers, flags, notes and all of memory
- * must be the same. The work is random, from a fixed seed. With a number, that many times as much.
+ * Holds every peer to libpaw.a on the same work: answers, registers, flags, notes, all of memory,
+ * codes and texts must be the same. The work is random, from a fixed seed. With a number, that many
+ * times as much.
  */
 #include <stdio.h>
 #include <stdlib.h>
@@ -9,7 +10,14 @@
 #include "agree.h"
 #include "random.h"
 
-enum { RUNS = 200000, STEPS = 600000, IMAGES = 80000, FACTS = 1000000 };
+enum {
+    RUNS = 200000,
+    STEPS = 600000,
+    IMAGES = 80000,
+    FACTS = 1000000,
+    TEXTS = 100000,
+    LISTINGS = 20000,
+};
 
 uint8_t memories[ENGINES][PAW_MEMORY_BYTES];
 
@@ -44,6 +52,10 @@ int main(int argc, char **argv)
     compare_images(times * IMAGES);
     compare_short_codes();
     compare_facts(times * FACTS);
+    compare_texts(times * TEXTS);
+    compare_many_labels();
+    compare_listings(times * LISTINGS);
+    compare_listed_halfwords();
     printf("peers by gcc%s: all as the library\n", WITH_CLANG ? " and clang" : "");
     return 0;
 }

@@ -3,11 +3,13 @@
 #define MADE_BY(compiler)                                                                         \
     {                                                                                             \
         #compiler, step_##compiler, step_by_value_##compiler, check_##compiler,                   \
-            verify_##compiler, load_##compiler, pack_##compiler                                   \
+            verify_##compiler, load_##compiler, pack_##compiler, assemble_##compiler,             \
+            list_##compiler                                                                       \
     }
 
 const struct maker makers[MAKERS] = {
-    { "libpaw", paw_step, paw_step, paw_check, paw_verify, paw_load, paw_pack },
+    { "libpaw", paw_step, paw_step, paw_check, paw_verify, paw_load, paw_pack, paw_assemble,
+      paw_list },
     MADE_BY(gcc),
 #if WITH_CLANG
     MADE_BY(clang),

@@ -9,13 +9,17 @@ typedef uint32_t step_function(struct paw_machine *, uint8_t *, size_t);
 typedef uint64_t file_function(const uint8_t *, size_t);
 typedef uint64_t load_function(const uint8_t *, size_t, uint8_t *, size_t);
 typedef uint32_t pack_function(const uint16_t *, size_t, uint16_t, uint16_t, uint8_t *, size_t);
+typedef uint64_t assemble_function(const uint8_t *, size_t, uint16_t *, size_t);
+typedef uint64_t list_function(const uint16_t *, size_t, uint8_t *, size_t);
 
 #define DECLARE_PEERS(compiler)                                                                   \
     extern run_function switch_run_##compiler, tail_run_##compiler;                               \
     extern step_function step_##compiler, step_by_value_##compiler;                               \
     extern file_function check_##compiler, verify_##compiler;                                     \
     extern load_function load_##compiler;                                                         \
-    extern pack_function pack_##compiler;
+    extern pack_function pack_##compiler;                                                         \
+    extern assemble_function assemble_##compiler;                                                 \
+    extern list_function list_##compiler;
 
 DECLARE_PEERS(gcc)
 DECLARE_PEERS(clang)
@@ -29,6 +33,8 @@ extern const struct maker {
     file_function *check, *verify;
     load_function *load;
     pack_function *pack;
+    assemble_function *assemble;
+    list_function *list;
 } makers[MAKERS];
 
 /* What runs: the library, then every maker's switch, then every maker's tail calls. */

@@ -62,28 +62,13 @@ static struct job {
 
 enum { JOBS = sizeof jobs / sizeof jobs[0] };
 
-/* How often the work must be done so that the time of the clock itself is lost in it. */
-static uint32_t repeats_needed(void (*work)(size_t))
-{
-    const double slice = 50e-6;
-    uint32_t needed = 0;
-    repeats = 1;
-    for (double begin = now(); now() - begin < slice; needed++)
-        work(LIBRARY);
-    return needed;
-}
-
 void measure_images(const struct effort *effort)
 {
     for (struct job *job = jobs; job < jobs + JOBS; job++) {
+        double seconds[MAKERS];
         images = job->images();
         count = job->count;
-        repeats = repeats_needed(job->work);
-        const struct contest contest = { MAKERS, 1, effort->image_rounds, NULL, job->work };
-        double seconds[MAKERS];
-        measure(&contest, seconds);
-        for (size_t i = 0; i < MAKERS; i++)
-            seconds[i] /= repeats; /* which differ from pass to pass */
+        measure_short(job->work, &repeats, effort->image_rounds, seconds);
         add_pass(&job->series, seconds, MAKERS);
     }
 }

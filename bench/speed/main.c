@@ -16,10 +16,12 @@ int main(int argc, char **argv)
         fprintf(stderr, "pass %d of %d\n", pass, passes);
         measure_programs(&effort);
         measure_images(&effort);
+        measure_texts(&effort);
     }
     print_head();
     print_programs();
     print_images();
+    print_texts();
     printf("\n");
     print_stacks();
     return 0;

@@ -42,3 +42,23 @@ void measure(const struct contest *contest, double *seconds)
             seconds[e] += best[e][k];
     }
 }
+
+/* How often the work must be done so that a slice is long enough. */
+static uint32_t repeats_needed(void (*work)(size_t), uint32_t *repeats)
+{
+    const double slice = 50e-6;
+    uint32_t needed = 0;
+    *repeats = 1;
+    for (double begin = now(); now() - begin < slice; needed++)
+        work(LIBRARY);
+    return needed;
+}
+
+void measure_short(void (*work)(size_t), uint32_t *repeats, uint32_t rounds, double *seconds)
+{
+    *repeats = repeats_needed(work, repeats);
+    const struct contest contest = { MAKERS, 1, rounds, NULL, work };
+    measure(&contest, seconds);
+    for (size_t i = 0; i < MAKERS; i++)
+        seconds[i] /= *repeats; /* which differ from pass to pass */
+}

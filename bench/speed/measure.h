@@ -22,6 +22,12 @@ struct contest {
  */
 void measure(const struct contest *contest, double *seconds);
 
+/*
+ * The seconds that each maker takes for a piece of short work. `work` does it *repeats times, which
+ * is chosen here so that the time of the clock itself is lost in a slice.
+ */
+void measure_short(void (*work)(size_t maker), uint32_t *repeats, uint32_t rounds, double *seconds);
+
 double now(void);
 
 /* The shortest of the times from `first` up to and without `end`. */

@@ -1,5 +1,5 @@
 //! Links `libpaw.a`: the one in the folder that `PAW_LIB_DIR` names, an absolute path, or else the
-//! one that `rt staticlib paw` has written in this repository.
+//! one that `tools/library` has written in this repository.
 
 use std::env;
 use std::fs;
@@ -35,7 +35,7 @@ fn link(archive: &Path) -> Result<(), String> {
         let advice = if set {
             format!("{OVERRIDE} must name the folder that has it")
         } else {
-            format!("run `rt staticlib paw` at the root of the repository, or set {OVERRIDE}")
+            format!("run `tools/library` at the root of the repository, or set {OVERRIDE}")
         };
         format!("cannot read {}: {error}; {advice}", archive.display())
     })?;

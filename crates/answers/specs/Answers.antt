@@ -1,7 +1,6 @@
 -- Answers as numbers: 0 in the low 16 bits is a pass, anything else the number of the check that failed.
 use Prim.Native.Nat.{ℕ, _+_, _*_}
-use Rattle.refusals.specs.Refusal.{placeNumber}
-use Rattle.refusals.specs.declared.refusal.Refusal.{Refusal}
+use Rattle.refusals.specs.Refusal.{refusalWord}
 use Rattle.image.specs.declared.checker.Checked.{Checked}
 use Rattle.image.specs.declared.checker.Checked.the-variants as checked
 use Rattle.image.specs.declared.checker.Layout.{Layout}
@@ -14,10 +13,6 @@ use Rattle.verifier.specs.declared.verifier.Verdict.{Verdict}
 use Rattle.verifier.specs.declared.verifier.Verdict.the-variants as verdict
 use Rattle.loader.specs.declared.loader.Loaded.{Loaded}
 use Rattle.loader.specs.declared.loader.Loaded.the-variants as loaded
-
--- a refusal: its number, and above it its place
-abbrev pub refusalWord : Refusal → ℕ
-refusalWord r = r .number + placeNumber (r .place) * 0x10000
 
 -- a pass: c, w and l, 16 bits each
 abbrev pub layoutWord : Layout → ℕ

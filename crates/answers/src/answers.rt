@@ -5,20 +5,12 @@ use image::Layout;
 use loader::Loaded;
 use packer::Packed;
 use reader::Given;
-use refusals::Refusal;
+use refusals::refusal_word;
 use verifier::Verdict;
 ghost use mathlib.Core.Path.{_≡_};
 ghost use Prim.Native.Nat.{_<_};
-ghost use Rattle.answers.specs.Answers.{refusalWord, layoutWord, checkedWord, givenWord, startOf, verdictWord};
+ghost use Rattle.answers.specs.Answers.{layoutWord, checkedWord, givenWord, startOf, verdictWord};
 ghost use Rattle.answers.specs.Answers.{loadedWord, packedNumber};
-
-// A refusal's number, and its place above it.
-fn refusal_word(r: Refusal) -> u64
-    ensures { λ w. ⌜ w ≡ refusalWord r ⌝ }
-{
-    let place = r.place;
-    (r.number as u64) + (refusals::place_number(place) as u64) * 0x10000
-}
 
 // The lengths of a program that passed.
 fn layout_word(layout: Layout) -> u64

@@ -86,6 +86,20 @@ fn print_block(file: &[u8], number: u8, k: u8) -> bool {
     }
 }
 
+// A halfword, and the instruction that it is, as a listing has it.
+fn print_listed(h: u16, a: ByteAddress) -> bool {
+    if !print_halfword(h) {
+        return false;
+    }
+    let line = lister::instruction_line(h, a);
+    let bytes = line.bytes;
+    let n = line.length;
+    if n == 0 {
+        return print(b", which is no instruction.\n");
+    }
+    print(b": ") && print(&bytes[..n])
+}
+
 fn print_instruction(file: &[u8], a: ByteAddress) -> bool {
     let i = units::instruction_index(a);
     let number = i.0 as usize;
@@ -96,8 +110,7 @@ fn print_instruction(file: &[u8], a: ByteAddress) -> bool {
     print(b"  At address ")
         && print_number(a.0 as u64)
         && print(b" stands ")
-        && print_halfword(image::code_at(file, i))
-        && print(b".\n")
+        && print_listed(image::code_at(file, i), a)
 }
 
 // What stands where check `number` failed: the instruction, what the block says,

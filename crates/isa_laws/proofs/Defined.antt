@@ -7,7 +7,7 @@ use Rattle.isa.specs.declared.instruction.Instruction.{Instruction}
 use Rattle.isa.specs.declared.decoder.Decoded.{Decoded}
 use Rattle.isa.specs.declared.decoder.Decoded.the-variants.{Defined, Undefined}
 use Rattle.isa.specs.Decode.{decodeOf}
-use Rattle.isa_laws.proofs.Every.{every, at}
+use Rattle.units.proofs.Every.{every, at}
 
 -- a test of a halfword and its instruction, at what a halfword decodes to
 abbrev pub onDefined : (ℕ → Instruction → Bool) → ℕ → Decoded → Bool

@@ -1,4 +1,3 @@
-pub mod Every
 pub mod Defined
 pub mod There
 pub mod Claims

@@ -6,7 +6,8 @@ use native.Mathlib.Omega.{arith}
 use lib.ListN.{length, set, replicate, length-append, length-replicate}
 use lib.Seq.{set-append-seam, length-take-le}
 use Rattle.lines.specs.declared.writer.Line.{Line}
-use Rattle.lines.specs.Lines.{Text, lineBytes, lineOf, Within}
+use Rattle.lines.specs.Lines.{lineBytes, lineOf, Within}
+use Rattle.text.specs.Text.{Text}
 use Rattle.lines.specs.Parts.{Adds}
 
 -- the first of the zeros behind a text becomes the next byte

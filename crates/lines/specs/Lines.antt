@@ -1,10 +1,9 @@
 -- The line of a verdict ("Bench table", the program), as ASCII codes: `fit C W L` or `refused N P`.
-use mathlib.Core.Bool.{cond}
 use mathlib.Core.List.{List, [], _∷_, _++_}
 use mathlib.Core.Path.{_≡_}
-use Prim.Native.Nat.{ℕ, _+_, _-_, _/_, _%_, _≤_}
-use lib.Dec.{ltb}
+use Prim.Native.Nat.{ℕ, _-_, _≤_}
 use lib.ListN.{length, take, replicate}
+use Rattle.text.specs.Text.{Text, decimal}
 use Rattle.refusals.specs.Refusal.{placeNumber}
 use Rattle.refusals.specs.declared.refusal.Refusal.{Refusal}
 use Rattle.image.specs.declared.checker.Layout.{Layout}
@@ -12,16 +11,9 @@ use Rattle.verifier.specs.declared.verifier.Verdict.{Verdict}
 use Rattle.verifier.specs.declared.verifier.Verdict.the-variants as verdict
 use Rattle.lines.specs.declared.writer.Line.{Line}
 
-abbrev pub Text : Type 0
-Text = List ℕ
-
--- the digit of a power of ten (`0` is 48), and nothing for a smaller number
-abbrev pub digit : ℕ → ℕ → Text
-digit n unit = cond (ltb n unit) [] ((48 + n / unit % 10) ∷ [])
-
--- a space and a number below 100,000 in decimal: no zeros in front, and the ones always
+-- a space and a number below 100,000 in decimal
 unfoldable pub numberText : ℕ → Text
-numberText n = 32 ∷ (digit n 10000 ++ digit n 1000 ++ digit n 100 ++ digit n 10 ++ ((48 + n % 10) ∷ []))
+numberText n = 32 ∷ decimal n
 
 -- `fit`, the code's length in bytes, the window's start and its length
 abbrev pub fitText : Layout → Text

@@ -3,7 +3,8 @@ use mathlib.Core.List.{[], _∷_, _++_}
 use mathlib.Core.Path.{_≡_}
 use Prim.Native.Nat.{ℕ, _+_, _≤_}
 use lib.ListN.{length}
-use Rattle.lines.specs.Lines.{Text, lineOf}
+use Rattle.lines.specs.Lines.{lineOf}
+use Rattle.text.specs.Text.{Text}
 use Rattle.lines.specs.declared.writer.Line.{Line}
 
 -- `r` is `line` with a text added

@@ -1,7 +1,8 @@
 // A line that is written from its start.
 ghost use Prim.Native.Nat.{_+_, _≤_, _<_};
 ghost use lib.ListN.{length};
-ghost use Rattle.lines.specs.Lines.{lineBytes, digit, numberText};
+ghost use Rattle.lines.specs.Lines.{lineBytes, numberText};
+ghost use Rattle.text.specs.Text.{digit};
 ghost use Rattle.lines.specs.Parts.{OnlyWord, PutByte, PutText};
 
 // The room of a line: the longest is 22 bytes.

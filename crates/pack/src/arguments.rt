@@ -1,4 +1,4 @@
-// The window, as the program's arguments give it.
+// The window and the language of the code, as the program's arguments give them.
 use super::console::say;
 use digits::LARGEST;
 use digits::digit_of;
@@ -71,8 +71,22 @@ fn read_number(i: usize) -> Number {
     parse(&text[..n])
 }
 
+// Whether the code is an assembler text: then there is a third argument, `source`.
+pub(crate) fn is_source() -> bool {
+    os::arg_count() == 4
+}
+
+// The name by which the user called, in front of what is said.
+fn say_name() {
+    if is_source() {
+        say(b"assemble: ");
+    } else {
+        say(b"pack: ");
+    }
+}
+
 fn complain(name: &[u8], words: &[u8]) {
-    say(b"pack: ");
+    say_name();
     say(name);
     say(words);
 }
@@ -104,14 +118,32 @@ fn read_both() -> Window {
     Window::At(w, l)
 }
 
+// Whether the third argument is the word for an assembler text.
+fn says_source() -> bool {
+    let mut word = io::buffer();
+    let n = os::arg(3, &mut word);
+    n == 6
+        && word[0] == b's'
+        && word[1] == b'o'
+        && word[2] == b'u'
+        && word[3] == b'r'
+        && word[4] == b'c'
+        && word[5] == b'e'
+}
+
 // The window that the program was started with.
 pub(crate) fn read_window() -> Window {
     let count = os::arg_count();
     if count == 3 {
         return read_both();
     }
+    if count == 4 {
+        if says_source() {
+            return read_both();
+        }
+    }
     if count > 3 {
-        say(b"pack: too many arguments: there are two, w and l\n");
+        say(b"pack: too many arguments: there are w and l, and source if the code is a text\n");
     } else if count == 2 {
         say(b"pack: l is missing: the length of the window in bytes\n");
     } else {

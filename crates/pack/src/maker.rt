@@ -1,4 +1,5 @@
 // The image of the text on standard input.
+use super::arguments::is_source;
 use super::complaints::say_fault;
 use super::complaints::say_refusal;
 use super::input::read_code;
@@ -29,13 +30,18 @@ fn write_image(code: &[u16], w: u16, l: u16, out: &mut [u8]) {
         Packed::Refused(r) => say_refusal(r, code.len(), w, l),
         Packed::Done => {
             if !io::write_all(STDOUT_FILENO, out) {
-                os::fail(b"pack: standard output");
+                if is_source() {
+                    os::fail(b"assemble: standard output");
+                } else {
+                    os::fail(b"pack: standard output");
+                }
             }
         }
     }
 }
 
-fn pack(code: &[u16], w: u16, l: u16) {
+// Packs the code and writes the image, or says why not.
+pub(crate) fn pack(code: &[u16], w: u16, l: u16) {
     let mut space = io::large_buffer();
     let size = image_bytes(code.len());
     write_image(code, w, l, &mut space[..size]);

@@ -3,7 +3,7 @@ ghost use Rattle.paw.specs.Version.{version};
 
 // Major, minor and patch, a byte each: the header and the Rust crate tell the
 // same, and tests hold them to it.
-const VERSION: u32 = 0x000400;
+const VERSION: u32 = 0x000500;
 
 // The library's version as one number, larger for a later one.
 #[no_mangle]

@@ -1,5 +1,5 @@
 -- Refusals ("The questions"): the number of the first check that failed, and its place.
-use Prim.Native.Nat.{ℕ}
+use Prim.Native.Nat.{ℕ, _+_, _*_}
 use Rattle.units.specs.declared.address.ByteAddress.{ByteAddress}
 use Rattle.refusals.specs.declared.refusal.Place.{Place}
 use Rattle.refusals.specs.declared.refusal.Place.the-variants.{Nowhere, Block, Address}
@@ -22,3 +22,7 @@ abbrev pub placeNumber : Place → ℕ
 placeNumber Nowhere = 0
 placeNumber (Block b) = b
 placeNumber (Address a) = a .0
+
+-- a refusal as one number, as the C face answers it: its number, and above it its place
+abbrev pub refusalWord : Refusal → ℕ
+refusalWord r = r .number + placeNumber (r .place) * 0x10000

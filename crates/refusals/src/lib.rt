@@ -6,3 +6,4 @@ pub use refusal::Place;
 pub use refusal::Refusal;
 pub use refusal::place_number;
 pub use refusal::refusal_of;
+pub use refusal::refusal_word;

@@ -1,7 +1,7 @@
 // Refusals: which check failed, and where.
 use units::ByteAddress;
 ghost use mathlib.Core.Path.{_≡_};
-ghost use Rattle.refusals.specs.Refusal.{refusal, placeNumber};
+ghost use Rattle.refusals.specs.Refusal.{refusal, placeNumber, refusalWord};
 
 // What a refusal points at: nothing, a block of an image, or an instruction.
 pub enum Place {
@@ -35,4 +35,12 @@ pub fn place_number(p: Place) -> u16
         Place::Block(b) => b as u16,
         Place::Address(a) => a.0,
     }
+}
+
+// A refusal in one number, its place above its own.
+pub fn refusal_word(r: Refusal) -> u64
+    ensures { λ w. ⌜ w ≡ refusalWord r ⌝ }
+{
+    let place = r.place;
+    (r.number as u64) + (place_number(place) as u64) * 0x10000
 }

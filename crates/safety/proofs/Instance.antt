@@ -6,7 +6,7 @@ use native.Mathlib.Omega.{arith}
 use lib.Dec.{T, ltb, ltb→lt}
 use lib.ListN.{length, getD, replicate, length-replicate, getD-replicate, List·getD-eq-default}
 use Rattle.units.specs.Bytes.{byteAt, byteOf}
-use Rattle.isa_laws.proofs.Every.{every, at}
+use Rattle.units.proofs.Every.{every, at}
 use Rattle.sums.specs.Sum.{sumBelow}
 use Rattle.image.specs.Format.{tabulateFrom}
 use Rattle.packer.specs.Pack.{bodyHalfword, balanceOf, imageHalfword, imageOf}

@@ -1,2 +1,3 @@
 pub mod Jumps
 pub mod Targets
+pub mod Marks

@@ -5,4 +5,5 @@ mod marks;
 pub use branch::Target;
 pub use branch::jump;
 pub use marks::is_marked;
+pub use marks::mark_target;
 pub use marks::set_mark;

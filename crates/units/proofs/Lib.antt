@@ -1,4 +1,5 @@
 pub mod Cases
+pub mod Every
 pub mod Halves
 pub mod Or
 pub mod Places

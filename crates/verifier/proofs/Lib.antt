@@ -1,7 +1,6 @@
 pub mod Accepted
 pub mod Fit
 pub mod Jumps
-pub mod Marking
 pub mod Memory
 pub mod Numbers
 pub mod Position

@@ -4,41 +4,19 @@ use super::code::block_end;
 use image::BLOCK_BYTES;
 use image::Checked;
 use image::Layout;
-use targets::Target;
-use targets::jump;
-use targets::set_mark;
+use targets::mark_target;
 use units::ByteAddress;
 use units::InstructionIndex;
 use units::halfword_at;
 ghost use mathlib.Core.Path.{_≡_};
 ghost use Prim.Native.Nat.{ℕ, _<_};
 ghost use lib.ListN.{length};
-ghost use Rattle.units.specs.Address.{byteAddressOf};
-ghost use Rattle.isa.specs.Decode.{decodeOf};
 ghost use Rattle.image.specs.Check.{checkOf};
 ghost use Rattle.image.specs.Code.{codeOf};
 ghost use Rattle.image.specs.Format.{mostCode};
-ghost use Rattle.targets.specs.Targets.{jumpAt, targeted, markWords, markedAt};
-ghost use Rattle.verifier.specs.Marks.{Unmarked, MarkedTo, MarkedBelow};
+ghost use Rattle.targets.specs.Marks.{Unmarked, MarkedBelow};
+ghost use Rattle.targets.specs.Targets.{targeted, markedAt};
 ghost use Rattle.verifier.specs.Position.{BlockOf, blockEnd};
-
-// The most instructions that a code has: 64 for each word of marks.
-const MOST_CODE: u16 = image::MOST_CODE as u16;
-
-// Marks what the halfword `h`, instruction `i`, branches to, if it is a branch
-// and a code can reach so far.
-fn mark_target(marks: &mut [u64; 249], i: InstructionIndex, h: u16)
-    requires { ⌜ length (now marks) ≡ markWords ⌝ }
-    ensures { λ _. ⌜ MarkedTo (jumpAt (byteAddressOf i) (decodeOf h)) (now (marks .entry)) (now (marks .exit)) ⌝ }
-{
-    let Target::To(a) = jump(units::byte_address(i), h) else {
-        return;
-    };
-    let target = units::instruction_index(a);
-    if target.0 < MOST_CODE {
-        set_mark(marks, target);
-    }
-}
 
 // Marks what the branches of a block go to. Its code starts with instruction
 // `start`, at byte `first` of the file.

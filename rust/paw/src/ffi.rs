@@ -17,6 +17,8 @@ unsafe extern "C" {
     fn paw_pack(code: *const u16, len: usize, w: u16, l: u16, out: *mut u8, out_len: usize) -> u32;
     fn paw_block(file: *const u8, len: usize, n: usize) -> u64;
     fn paw_add_to_sum(sum: u16, halfword: u16) -> u16;
+    fn paw_assemble(text: *const u8, text_len: usize, code: *mut u16, code_len: usize) -> u64;
+    fn paw_list(code: *const u16, code_len: usize, text: *mut u8, text_len: usize) -> u64;
 }
 
 pub fn version() -> u32 {
@@ -80,4 +82,14 @@ pub fn block(file: &[u8], n: usize) -> u64 {
 pub fn add_to_sum(sum: u16, halfword: u16) -> u16 {
     // SAFETY: takes two numbers and answers a number, for all numbers.
     unsafe { paw_add_to_sum(sum, halfword) }
+}
+
+pub fn assemble(text: &[u8], code: &mut [u16]) -> u64 {
+    // SAFETY: as for `load`; the code's length counts halfwords on both sides.
+    unsafe { paw_assemble(text.as_ptr(), text.len(), code.as_mut_ptr(), code.len()) }
+}
+
+pub fn list(code: &[u16], text: &mut [u8]) -> u64 {
+    // SAFETY: as for `load`; the code's length counts halfwords on both sides.
+    unsafe { paw_list(code.as_ptr(), code.len(), text.as_mut_ptr(), text.len()) }
 }

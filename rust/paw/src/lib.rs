@@ -5,7 +5,7 @@
 //! only carries it over. An answer that the library cannot give makes the function panic: then
 //! this crate and the library do not belong together.
 //!
-//! It needs no standard library and no allocator. It links the `libpaw.a` that `rt staticlib paw`
+//! It needs no standard library and no allocator. It links the `libpaw.a` that `tools/library`
 //! writes in its repository, or the one in the folder that the environment variable `PAW_LIB_DIR`
 //! names when it is built. That library is for x86-64 and Linux.
 //!
@@ -15,6 +15,9 @@
 //! holds. Each completed step tells as [`Traffic`] which data it touched, and a run what its last
 //! one told. A driver that delivers a block's last halfword first sums the block on the way with
 //! [`add_to_sum`].
+//!
+//! Code need not be put together by hand: [`assemble`] makes it from a program in writing, with
+//! labels, and [`list`] writes code as such a text again.
 //!
 //! ```
 //! use paw::{Condition, Instruction, Machine, RunOutcome, Traffic};
@@ -51,18 +54,22 @@
 #![no_std]
 #![deny(unsafe_code)]
 
+mod assembler;
 mod condition;
 mod cpu;
 mod date;
 mod ffi;
 mod image;
 mod instruction;
+mod lister;
 mod loader;
 mod refusal;
+mod source;
 mod traffic;
 mod verifier;
 mod version;
 
+pub use assembler::assemble;
 pub use condition::Condition;
 pub use cpu::{MEMORY_BYTES, Machine, PC, Run, RunOutcome, StepOutcome, Stop, run, step};
 pub use date::{ManualDate, manual_date};
@@ -71,8 +78,10 @@ pub use image::{
     add_to_sum, block, check, image_bytes, pack,
 };
 pub use instruction::{Instruction, decode, encode};
+pub use lister::{MAX_LISTING, list, listing_bytes};
 pub use loader::load;
 pub use refusal::{Check, Place, Refusal};
+pub use source::{SourceCheck, SourceRefusal};
 pub use traffic::Traffic;
 pub use verifier::verify;
 pub use version::{VERSION, Version, version};

@@ -37,9 +37,9 @@ pub enum Check {
     BranchTarget = 13,
     /// The last instruction is HALT, with any note.
     LastIsHalt = 14,
-    /// The packer is given as much code as an image can hold, and some.
+    /// There is as much code as an image can hold, and some.
     CodeLength = 15,
-    /// The output is exactly as long as it has to be.
+    /// The output is exactly as long as an image has to be, or has room for a listing.
     OutputLength = 16,
     /// The fields form an instruction.
     Fields = 17,

@@ -1,5 +1,6 @@
 //! An independent engine of the PAW service board: decoder and encoder, cpu, image reader and
-//! packer, verifier and loader, together with inputs and checks for testing engines.
+//! packer, verifier and loader, assembler and lister, together with inputs and checks for testing
+//! engines.
 //!
 //! It is written from the manual and the scope alone, so that agreement with another engine means
 //! something.
@@ -16,6 +17,7 @@ pub mod instruction;
 pub mod loader;
 pub mod program;
 pub mod refusal;
+pub mod source;
 pub mod table;
 pub mod traffic;
 pub mod verifier;

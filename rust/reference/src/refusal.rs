@@ -30,12 +30,20 @@ pub const WRITES_PC: u8 = 12;
 pub const BRANCH_TARGET: u8 = 13;
 /// Check 14: the last instruction is HALT, whatever it notes.
 pub const LAST_NOT_HALT: u8 = 14;
-/// Check 15: the packer is given a permitted amount of code.
+/// Check 15: there is a permitted amount of code, to pack, to list or in a text.
 pub const CODE_LENGTH: u8 = 15;
-/// Check 16: the packer is given an output of exactly the blocks it needs.
+/// Check 16: the packer is given an output of exactly the blocks it needs, the assembler and the
+/// lister one that is long enough.
 pub const OUTPUT_LENGTH: u8 = 16;
 /// Check 17: the encoder is given fields that form a defined instruction.
 pub const BAD_FIELDS: u8 = 17;
+/// Check 21: a line of a text is a label or an instruction, its registers suit its form, and a
+/// line feed ends it.
+pub const SOURCE_LINE: u8 = 21;
+/// Check 22: a label is defined once, and the label of a branch is defined.
+pub const SOURCE_LABEL: u8 = 22;
+/// Check 23: a value fits its field, and so does the way to a branch's label.
+pub const SOURCE_VALUE: u8 = 23;
 
 /// The first check that failed, and where.
 #[derive(Clone, Copy, Debug, PartialEq, Eq, Hash)]
@@ -65,3 +73,32 @@ impl fmt::Display for Refusal {
 }
 
 impl std::error::Error for Refusal {}
+
+/// The first check that a written program failed, and in which line.
+#[derive(Clone, Copy, Debug, PartialEq, Eq, Hash)]
+pub struct SourceRefusal {
+    /// Number of the check: 15, 16, or 21 to 23.
+    pub number: u8,
+    /// Line, counted from 1, for checks 21 to 23, otherwise 0.
+    pub line: u64,
+}
+
+impl SourceRefusal {
+    /// A refusal of a line.
+    pub const fn at(number: u8, line: u64) -> Self {
+        SourceRefusal { number, line }
+    }
+
+    /// A refusal of the whole.
+    pub const fn of(number: u8) -> Self {
+        SourceRefusal { number, line: 0 }
+    }
+}
+
+impl fmt::Display for SourceRefusal {
+    fn fmt(&self, f: &mut fmt::Formatter<'_>) -> fmt::Result {
+        write!(f, "refused {} {}", self.number, self.line)
+    }
+}
+
+impl std::error::Error for SourceRefusal {}

@@ -13,6 +13,8 @@ unsafe extern "C" {
     fn paw_encode(word: u32) -> u32;
     fn paw_step(machine: *mut u8, memory: *mut u8, len: usize) -> u32;
     fn paw_run(machine: *mut u8, memory: *mut u8, len: usize, budget: u32) -> u64;
+    fn paw_assemble(text: *const u8, text_len: usize, code: *mut u16, code_len: usize) -> u64;
+    fn paw_list(code: *const u16, code_len: usize, text: *mut u8, text_len: usize) -> u64;
 }
 
 /// The kind of HALT, whose first field is the note.
@@ -29,6 +31,16 @@ fn decode(halfword: u16) -> u32 {
 fn encode(word: [u8; 4]) -> u32 {
     // SAFETY: takes a number and answers a number, for every number.
     unsafe { paw_encode(u32::from_be_bytes(word)) }
+}
+
+fn assemble(text: &[u8], code: &mut [u16]) -> u64 {
+    // SAFETY: both are borrowed for the call, and the lengths are their own.
+    unsafe { paw_assemble(text.as_ptr(), text.len(), code.as_mut_ptr(), code.len()) }
+}
+
+fn list(code: &[u16], text: &mut [u8]) -> u64 {
+    // SAFETY: as for `assemble`.
+    unsafe { paw_list(code.as_ptr(), code.len(), text.as_mut_ptr(), text.len()) }
 }
 
 #[test]
@@ -287,5 +299,54 @@ fn a_refused_memory_tells_no_access() {
                 assert_eq!(record.run(&mut memory, budget), 1);
             }
         }
+    }
+}
+
+/// The number is the low 16 bits, and all above it is the length or the line, beyond 16 bits too.
+#[test]
+fn the_assembler_tells_halfwords_or_a_line() {
+    let mut code = vec![0xA5A5; 15_936];
+    for count in [1, 2, 255, 256, 257, 15_935, 15_936] {
+        let text = "HALT #7\n".repeat(count);
+        assert_eq!(assemble(text.as_bytes(), &mut code), (count as u64) << 16);
+        assert_eq!(assemble(text.as_bytes(), &mut code[..count - 1]), 16);
+    }
+    assert_eq!(assemble(b"", &mut code), 15);
+    assert_eq!(assemble("HALT #7\n".repeat(15_937).as_bytes(), &mut code), 15);
+    for lines in [0, 1, 254, 255, 256, 20_000] {
+        let labels: String = (0..lines).map(|number| format!("x{number}:\n")).collect();
+        for (last, number) in
+            [("HALT\n", 21), ("HALT #7", 21), ("BEQ y\n", 22), ("HALT #256\n", 23)]
+        {
+            let text = format!("{labels}{last}");
+            let due = (lines + 1) << 16 | number;
+            assert_eq!(assemble(text.as_bytes(), &mut code), due, "{last} behind {lines} lines");
+        }
+    }
+    for lines in [65_534, 65_535, 65_536, 131_071, 200_000] {
+        let text = "x:\n".repeat(lines) + "HALT\n";
+        assert_eq!(assemble(text.as_bytes(), &mut code), (lines as u64 + 1) << 16 | 21);
+    }
+}
+
+#[test]
+fn the_lister_tells_bytes_or_an_address() {
+    let mut text = vec![0xA5; 310_000];
+    for count in [1, 2, 13, 14, 3_449, 3_450, 15_936] {
+        let code = vec![0x67FF; count]; // STR R7, [R7, #124]
+        assert_eq!(list(&code, &mut text), (19 * count as u64) << 16);
+        assert_eq!(list(&code, &mut text[..19 * count - 1]), 16);
+    }
+    assert_eq!(list(&[], &mut text), 15);
+    assert_eq!(list(&vec![0; 15_937], &mut text), 15);
+    for place in [0, 1, 127, 128, 15_935] {
+        let mut code = vec![0; 15_936];
+        code[place] = 0xFFFF;
+        assert_eq!(list(&code, &mut text), (2 * place as u64) << 16 | 9);
+        code[place] = 0xD07F; // 254 bytes ahead
+        let leaves = place + 127 > 15_935;
+        let answer = list(&code, &mut text);
+        assert_eq!(answer as u16, if leaves { 13 } else { 0 });
+        assert!(!leaves || answer >> 16 == 2 * place as u64);
     }
 }

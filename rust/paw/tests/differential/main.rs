@@ -4,13 +4,19 @@
 //! tests twenty times longer, lets two runs spend the largest budget, and adds every halfword to
 //! every sum.
 
+mod assembler;
 mod face;
+mod faults;
+mod forms;
 mod images;
 mod instructions;
+mod labels;
+mod lister;
 mod loader;
 mod notes;
 mod packer;
 mod runs;
+mod sources;
 mod steps;
 mod sums;
 mod support;

@@ -5,7 +5,7 @@ use std::ops::{Deref, DerefMut};
 use reference::cpu::{Machine, PC, RunOutcome, RunResult, StepOutcome};
 use reference::generate::Rng;
 use reference::image::Layout;
-use reference::refusal::Refusal;
+use reference::refusal::{Refusal, SourceRefusal};
 use reference::traffic::Touched;
 
 /// Whether `PAW_LONG=1` asks for long tests.
@@ -93,6 +93,11 @@ impl DerefMut for Guarded {
 /// A library's refusal as the reference writes it.
 pub fn refusal(refusal: paw::Refusal) -> Refusal {
     Refusal { number: refusal.number(), place: refusal.place_number() }
+}
+
+/// A library's refusal of a text as the reference writes it.
+pub fn source_refusal(refusal: paw::SourceRefusal) -> SourceRefusal {
+    SourceRefusal { number: refusal.number(), line: refusal.line_number() }
 }
 
 /// A library's answer to a file as the reference writes it.

@@ -2,7 +2,10 @@
 
 use std::collections::HashSet;
 
-use paw::{Check, Condition, Place, Refusal, RunOutcome, StepOutcome, Stop, Traffic};
+use paw::{
+    Check, Condition, Place, Refusal, RunOutcome, SourceCheck, SourceRefusal, StepOutcome, Stop,
+    Traffic,
+};
 
 const HEADER: &str = include_str!("../../../../include/paw.h");
 
@@ -27,6 +30,25 @@ fn every_check_has_a_number_and_words() {
     }
     assert_eq!(words.len(), 17);
     assert_eq!([0, 18, 255].map(Check::from_number), [None; 3]);
+}
+
+#[test]
+fn every_check_of_a_text_has_a_number_and_words() {
+    let mut words = HashSet::new();
+    for (number, &check) in [15, 16, 21, 22, 23].into_iter().zip(SourceCheck::ALL) {
+        assert_eq!((check.number(), SourceCheck::from_number(number)), (number, Some(check)));
+        let text = SourceRefusal { check, line: Some(3) }.to_string();
+        let (start, complaint) = text.split_once(": ").unwrap();
+        assert_eq!(start, format!("refused by check {number} at line 3"));
+        assert_eq!(complaint, check.complaint());
+        assert!(complaint.len() > 20, "{complaint}");
+        assert!(words.insert(complaint.to_string()), "{complaint}");
+    }
+    assert_eq!(words.len(), SourceCheck::ALL.len());
+    assert_eq!([0, 14, 17, 20, 24, 255].map(SourceCheck::from_number), [None; 6]);
+    let whole = SourceRefusal { check: SourceCheck::CodeLength, line: None };
+    assert!(whole.to_string().starts_with("refused by check 15: the code "));
+    assert_eq!((whole.number(), whole.line_number()), (15, 0));
 }
 
 #[test]

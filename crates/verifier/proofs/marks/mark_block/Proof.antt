@@ -3,10 +3,10 @@ use Prim.Native.Nat.{_-_}
 use native.Mathlib.Numerals.{add-one}
 use native.Mathlib.Omega.{arith}
 use Rattle.image.specs.Code.{codeOf}
-use Rattle.verifier.specs.Marks.{MarkedBelow}
+use Rattle.targets.specs.Marks.{MarkedBelow}
+use Rattle.targets.proofs.Marking.{mark-next}
 use Rattle.verifier.proofs.Accepted.{Turn, position-inside, position-small, halfword-is, some-left}
 use Rattle.verifier.proofs.Accepted.{Whole, whole-block, within-first, turn-within, at-end}
-use Rattle.verifier.proofs.Marking.{mark-next}
 use Rattle.verifier.proofs.Position.{Within, within-next}
 use borrow.Author.Needs.{needs}
 use Rattle.verifier.proofs.marks.mark_block.Statement.{statement}

@@ -4,8 +4,8 @@ use Prim.Native.Nat.{_-_}
 use native.Mathlib.Omega.{arith}
 use lib.ListN.{length}
 use Rattle.image.specs.Code.{codeOf}
+use Rattle.targets.specs.Marks.{MarkedBelow}
 use Rattle.targets.specs.Targets.{targetedBelow, targeted}
-use Rattle.verifier.specs.Marks.{MarkedBelow}
 use Rattle.verifier.specs.Position.{BlockOf}
 use Rattle.verifier.proofs.Accepted.{count-is, Next, first-turn, position-small, next-block}
 use Rattle.verifier.proofs.Position.{Between, between-first}

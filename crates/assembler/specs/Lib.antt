@@ -1,0 +1,5 @@
+pub mod Assemble
+pub mod Assembled
+pub mod Labels
+pub mod Reading
+pub mod Passes

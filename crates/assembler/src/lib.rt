@@ -1,0 +1,9 @@
+// The assembler: the code of a text.
+mod assembler;
+mod definitions;
+mod fields;
+mod reader;
+mod translator;
+
+pub use assembler::Assembled;
+pub use assembler::assemble;

@@ -1,0 +1,8 @@
+// A table of labels: first definitions by name.
+mod table;
+
+pub use table::Labelled;
+pub use table::PLACES;
+pub use table::Probed;
+pub use table::define;
+pub use table::lookup;

@@ -1,0 +1,4 @@
+pub mod Checking
+pub mod Items
+pub mod Listing
+pub mod Outcomes

@@ -1,0 +1,7 @@
+mod Numbers
+mod Naming
+mod Matching
+mod Rowing
+pub mod Patterns
+pub mod Rows
+pub mod Writing

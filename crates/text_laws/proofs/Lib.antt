@@ -1,0 +1,13 @@
+pub mod Slots
+pub mod Lines
+pub mod Names
+pub mod Reading
+pub mod Texts
+pub mod Instructions
+pub mod RoundTrip
+pub mod Fields
+pub mod Bounds
+pub mod Faults
+pub mod Refused
+pub mod ListRefused
+pub mod Examples

@@ -1,0 +1,4 @@
+pub mod Reasons
+pub mod ListReasons
+pub mod Claims
+pub mod Examples

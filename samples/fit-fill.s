@@ -1,0 +1,12 @@
+MOV R0, #0
+next:
+MOV R1, #252
+AND R1, R0
+ADD R2, PC, #252
+ADD R1, R2
+STR R0, [R1, #0]
+MOV R4, #4
+ADD R0, R4
+CMP R0, #252
+BLS next
+HALT #0

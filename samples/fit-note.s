@@ -1,0 +1,7 @@
+ADD R2, PC, #256
+LDRB R0, [R2, #0]
+CMP R0, #110
+BCS good
+HALT #7
+good:
+HALT #1

@@ -1,0 +1,6 @@
+ADD R2, PC, #256
+LDR R0, [R2, #0]
+LDR R1, [R2, #4]
+ADD R0, R1
+STR R0, [R2, #8]
+HALT #0

@@ -1,0 +1,10 @@
+ADD R2, PC, #256
+MOV R0, #0
+next:
+STR R0, [R2, #0]
+MOV R4, #4
+ADD R2, R4
+ADD R0, R4
+CMP R0, #252
+BLS next
+HALT #0
