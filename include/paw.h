@@ -552,7 +552,7 @@ uint32_t paw_pack(const uint16_t *code, size_t code_len, uint16_t window_start,
  * 22 and 23 are put together, line by line: of two faults the upper one is told, whichever number
  * it has. Does not verify the code.
  *
- * It takes 781,856 bytes of stack, nearly all of it a table of labels.
+ * It takes 808,216 bytes of stack, nearly all of it a table of labels and notes of the instructions.
  */
 uint64_t paw_assemble(const uint8_t *text, size_t text_len, uint16_t *code, size_t code_len);
 
@@ -601,7 +601,7 @@ static inline const char *paw_assembled_reason(uint64_t answer)
  *
  * 9 and 13 are those of paw_verify; its other checks are not put.
  *
- * It takes 2,456 bytes of stack.
+ * It takes 2,104 bytes of stack.
  */
 uint64_t paw_list(const uint16_t *code, size_t code_len, uint8_t *text, size_t text_len);
 

@@ -12,22 +12,26 @@ use Rattle.isa.specs.declared.instruction.Instruction.{Instruction}
 use Rattle.image.specs.Format.{mostCode}
 use Rattle.text.specs.Text.{Text, linesOf}
 use Rattle.syntax.specs.Syntax.{Item}
-use Rattle.syntax.specs.Table.{patternTable}
 use Rattle.assembler.specs.Assemble.{Read, Items, NoLine, readFrom, isLabel, instructionsIn, check15}
 use Rattle.assembler.specs.Assemble.{Said, Nothing, Instructs, Fault, saidAt, Checked, Code, Fails, saying}
 use Rattle.assembler.specs.Assemble.{nextNumber, checkFrom, halfwordsOf, Assembly, Assembles, Refuses, withRoom}
 use Rattle.assembler.specs.Assemble.{assembleRead, assembleOf}
-use Rattle.assembler.specs.Assembled.{assembledAs, outputAfter}
+use Rattle.assembler.specs.Assembled.{assembledAs, outputAfter, TriedOf}
 use Rattle.assembler.specs.Labels.{Holds}
-use Rattle.assembler.specs.Reading.{readAs, Entered}
-use Rattle.assembler.specs.Passes.{Ready, itemsOf, translatedAs, putFrom, Written}
+use Rattle.assembler.specs.Reading.{noFlaw, flawAfter, readAs, Entered}
+use Rattle.assembler.specs.Passes.{Ready, Unfolded, itemsOf, Made, Codes, Breaks, madeOf, translatedAs, putFrom}
+use Rattle.assembler.specs.Passes.{Written}
+use Rattle.assembler.specs.declared.reader.Flaw.{Flaw}
+use Rattle.assembler.specs.declared.assembler.Tried.{Tried}
+use Rattle.assembler.specs.declared.assembler.Tried.the-variants.{Answer, Outgrown}
 use Rattle.assembler.specs.declared.assembler.Assembled.{Assembled}
 use Rattle.assembler.specs.declared.assembler.Assembled.the-variants.{Done, Refused}
 use Rattle.assembler.specs.declared.reader.Counted.{Counted}
 use Rattle.assembler.specs.declared.reader.Counted.the-variants as counted
 use Rattle.assembler.specs.declared.translator.Translated.{Translated}
 use Rattle.assembler.specs.declared.translator.Translated.the-variants as translated
-use Rattle.assembler.proofs.Translating.{Kind, kind, whole}
+use Rattle.assembler.proofs.Saying.{Kind, kind}
+use Rattle.assembler.proofs.Translating.{whole}
 
 -- a text has as many halfwords as instructions
 halfwords-length : (is : List Instruction) → length (halfwordsOf is) ≡ length is
@@ -64,100 +68,161 @@ put-all [] out h = refl
 put-all (g ∷ hs) [] h = absurd (omega arith)
 put-all (g ∷ hs) (o ∷ out) h = put-behind 0 hs g out ∙ ap (λ (l : List ℕ). g ∷ l) (put-all hs out (omega arith))
 
--- what the assembler answers and leaves
-abbrev pub Answers : Text → List ℕ → Assembled → List ℕ → Type 0
-Answers text out r after =
-    (r ≡ assembledAs (assembleOf text (length out))) × (after ≡ outputAfter (assembleOf text (length out)) out)
+-- what a try answers and leaves, with room for the notes of so many instructions
+abbrev pub Tries : Text → ℕ → List ℕ → Tried → List ℕ → Type 0
+Tries text room out r after = TriedOf (assembleOf text (length out)) room out r after
 
-answers : (text out : List ℕ) {after : List ℕ} {r : Assembled} (a : Assembly)
+answers : (text out : List ℕ) (room : ℕ) {after : List ℕ} {r : Assembled} (a : Assembly)
     → assembleOf text (length out) ≡ a → r ≡ assembledAs a
-    → after ≡ outputAfter a out → Answers text out r after
-answers text out a e p q = (p ∙ ap assembledAs (sym e), q ∙ ap (λ (z : Assembly). outputAfter z out) (sym e))
+    → after ≡ outputAfter a out → Tries text room out (Answer r) after
+answers text out room a e p q = (p ∙ ap assembledAs (sym e), q ∙ ap (λ (z : Assembly). outputAfter z out) (sym e))
 
-module _ {table text names lines numbers : List ℕ} {n : ℕ} (ready : Ready table text names lines numbers)
-    (count : n ≡ instructionsIn (itemsOf text)) where
+abbrev said : Text → Checked
+said text = checkFrom (itemsOf text) 1 0 (itemsOf text)
+
+module _ {text names numbers halfwords aims lines : List ℕ} {n : ℕ} {flaw : Flaw}
+    (read : Unfolded text names numbers halfwords aims lines n flaw) where
+  abbrev room : ℕ
+  room = length halfwords
+
   read-items : (size : ℕ) → assembleOf text size ≡ assembleRead size (Items (itemsOf text))
   unfolding assembleOf
-  read-items size = ap (assembleRead size) (ready .lines-read)
+  read-items size = ap (assembleRead size) (read .known .all-read)
 
   counted-as : (size : ℕ) (b : Bool) → check15 n ≡ b
-      → assembleOf text size ≡ cond b (withRoom size (whole text)) (Refuses 15 0)
+      → assembleOf text size ≡ cond b (withRoom size (said text)) (Refuses 15 0)
   counted-as size b e =
       read-items size
-      ∙ ap (λ (t : Bool). cond t (withRoom size (whole text)) (Refuses 15 0)) (ap check15 (sym count) ∙ e)
+      ∙ ap (λ (t : Bool). cond t (withRoom size (said text)) (Refuses 15 0)) (ap check15 (sym (read .count)) ∙ e)
 
-  pub too-few : (out : List ℕ) → n < 1 → Answers text out (Refused 15 0) out
-  too-few out h = answers text out (Refuses 15 0) (counted-as (length out) false (rw (lt-leb 1 n h) refl)) refl refl
+  pub too-few : (out : List ℕ) {r : Tried} → n < 1 → r ≡ Answer (Refused 15 0) → Tries text room out r out
+  too-few out h is =
+      subst (λ (r : Tried). Tries text room out r out) (sym is)
+      (answers text out room (Refuses 15 0) (counted-as (length out) false (rw (lt-leb 1 n h) refl)) refl refl)
 
-  pub too-many : (out : List ℕ) → mostCode < n → Answers text out (Refused 15 0) out
-  too-many out h =
+  pub too-many : (out : List ℕ) {r : Tried} → mostCode < n → r ≡ Answer (Refused 15 0) → Tries text room out r out
+  too-many out h is =
       let e : check15 n ≡ false = rw (le-leb 1 n (omega arith), lt-leb n mostCode h) refl in
-      answers text out (Refuses 15 0) (counted-as (length out) false e) refl refl
+      subst (λ (r : Tried). Tries text room out r out) (sym is)
+      (answers text out room (Refuses 15 0) (counted-as (length out) false e) refl refl)
+
+  -- the notes are all there
+  pub all-noted : n ≤ length halfwords → Ready text names numbers halfwords aims lines n flaw
+  all-noted h =
+      record {
+        known = read .known;
+        size-aims = read .size-aims;
+        size-lines = read .size-lines;
+        room = h;
+        noted = read .noted h;
+        count = read .count;
+        flaw-is = read .flaw-is;
+      }
 
   module _ (out : List ℕ) (least : 1 ≤ n) (most : n ≤ mostCode) where
-    checked : (c : Checked) → whole text ≡ c → assembleOf text (length out) ≡ withRoom (length out) c
+    checked : (c : Checked) → said text ≡ c → assembleOf text (length out) ≡ withRoom (length out) c
     checked c e =
         counted-as (length out) true (rw (le-leb 1 n least, le-leb n mostCode most) refl) ∙ ap (withRoom (length out)) e
 
-    pub line-fails : {number line : ℕ} → translated.Fault number line ≡ translatedAs (whole text)
-        → Answers text out (Refused number line) out
-    line-fails {number} {line} e = go (whole text) refl e
+    pub line-fails : {number line : ℕ} {r : Tried} → translated.Fault number line ≡ translatedAs (whole text)
+        → r ≡ Answer (Refused number line) → Tries text room out r out
+    line-fails {number} {line} e is =
+        subst (λ (r : Tried). Tries text room out r out) (sym is) (go (said text) refl e)
       where
-        go : (c : Checked) → whole text ≡ c → translated.Fault number line ≡ translatedAs c
-            → Answers text out (Refused number line) out
+        go : (c : Checked) → said text ≡ c → translated.Fault number line ≡ translatedAs (madeOf c)
+            → Tries text room out (Answer (Refused number line)) out
         go (Code is) p e = clash (cc)
         go (Fails m l) p e =
             let same : Refused number line ≡ Refused m l = cc in
-            answers text out (Refuses m l) (checked (Fails m l) p) same refl
+            answers text out room (Refuses m l) (checked (Fails m l) p) same refl
 
-    pub no-room : length out < n → translated.Done ≡ translatedAs (whole text) → Answers text out (Refused 16 0) out
-    no-room h e = go (whole text) refl e
+    pub no-room : {r : Tried} → length out < n → translated.Done ≡ translatedAs (whole text)
+        → r ≡ Answer (Refused 16 0) → Tries text room out r out
+    no-room h e is = subst (λ (r : Tried). Tries text room out r out) (sym is) (go (said text) refl e)
       where
-        go : (c : Checked) → whole text ≡ c → translated.Done ≡ translatedAs c → Answers text out (Refused 16 0) out
+        go : (c : Checked) → said text ≡ c → translated.Done ≡ translatedAs (madeOf c)
+            → Tries text room out (Answer (Refused 16 0)) out
         go (Fails m l) p e = clash (cc)
         go (Code is) p e =
-            let long : length is ≡ n = code-length (itemsOf text) 1 0 (itemsOf text) is p ∙ sym count in
-            answers text out (Refuses 16 0)
+            let long : length is ≡ n = code-length (itemsOf text) 1 0 (itemsOf text) is p ∙ sym (read .count) in
+            answers text out room (Refuses 16 0)
             (checked (Code is) p ∙ rw (lt-leb (length is) (length out) (omega arith)) refl) refl refl
 
     pub code-done : {after : List ℕ} → n ≤ length out → translated.Done ≡ translatedAs (whole text)
-        → Written (whole text) 0 out after → Answers text out (Done n) after
-    code-done {after} h e w = go (whole text) refl e w
+        → Written (whole text) 0 out after → Tries text room out (Answer (Done n)) after
+    code-done {after} h e w = go (said text) refl e w
       where
-        go : (c : Checked) → whole text ≡ c → translated.Done ≡ translatedAs c → Written c 0 out after
-            → Answers text out (Done n) after
+        go : (c : Checked) → said text ≡ c → translated.Done ≡ translatedAs (madeOf c) → Written (madeOf c) 0 out after
+            → Tries text room out (Answer (Done n)) after
         go (Fails m l) p e w = clash (cc)
         go (Code is) p e w =
-            let long : length is ≡ n = code-length (itemsOf text) 1 0 (itemsOf text) is p ∙ sym count in
+            let long : length is ≡ n = code-length (itemsOf text) 1 0 (itemsOf text) is p ∙ sym (read .count) in
             let all : n ≡ length (halfwordsOf is) = sym long ∙ sym (halfwords-length is) in
-            answers text out (Assembles (halfwordsOf is))
+            answers text out room (Assembles (halfwordsOf is))
             (checked (Code is) p ∙ rw (le-leb (length is) (length out) (omega arith)) refl)
             (ap Done all) (w ∙ put-all (halfwordsOf is) out (omega arith))
 
 -- 21
-pub no-line : (text out : List ℕ) {r : Counted} {line : ℕ} → r ≡ readAs (readFrom 1 (linesOf text))
-    → r ≡ counted.NoLine line → Answers text out (Refused 21 line) out
+pub no-line : (text out : List ℕ) (room : ℕ) {r : Counted} {t : Tried} {line : ℕ}
+    → r ≡ readAs (readFrom 1 (linesOf text)) → r ≡ counted.NoLine line → t ≡ Answer (Refused 21 line)
+    → Tries text room out t out
 unfolding assembleOf
-no-line text out {line = line} told e = go (readFrom 1 (linesOf text)) refl (sym e ∙ told)
+no-line text out room {line = line} told e is =
+    subst (λ (t : Tried). Tries text room out t out) (sym is) (go (readFrom 1 (linesOf text)) refl (sym e ∙ told))
   where
     go : (o : Read) → readFrom 1 (linesOf text) ≡ o → counted.NoLine line ≡ readAs o
-        → Answers text out (Refused 21 line) out
+        → Tries text room out (Answer (Refused 21 line)) out
     go (Items xs) p e = clash (cc)
     go (NoLine k) p e =
         let same : Refused 21 line ≡ Refused 21 k = cc in
-        answers text out (Refuses 21 k) (ap (assembleRead (length out)) p) same refl
+        answers text out room (Refuses 21 k) (ap (assembleRead (length out)) p) same refl
 
 -- a text that was read
-pub all-read : (text table names lines numbers : List ℕ) {r : Counted} {n : ℕ}
-    → (r ≡ readAs (readFrom 1 (linesOf text))) × Entered names lines numbers (readFrom 1 (linesOf text))
-    → table ≡ patternTable → r ≡ counted.Instructions n
-    → Ready table text names lines numbers × (n ≡ instructionsIn (itemsOf text))
-all-read text table names lines numbers {n = n} (told, entered) t e =
+pub was-read : (text names numbers halfwords aims lines : List ℕ) {r : Counted} {n : ℕ} {flaw : Flaw}
+    → (r ≡ readAs (readFrom 1 (linesOf text)))
+    × Entered names numbers halfwords aims lines (readFrom 1 (linesOf text))
+    → r ≡ counted.Instructions n flaw → Unfolded text names numbers halfwords aims lines n flaw
+was-read text names numbers halfwords aims lines {n = n} {flaw = flaw} (told, entered) e =
     go (readFrom 1 (linesOf text)) refl (sym e ∙ told) entered
   where
-    go : (o : Read) → readFrom 1 (linesOf text) ≡ o → counted.Instructions n ≡ readAs o → Entered names lines numbers o
-        → Ready table text names lines numbers × (n ≡ instructionsIn (itemsOf text))
+    go : (o : Read) → readFrom 1 (linesOf text) ≡ o → counted.Instructions n flaw ≡ readAs o
+        → Entered names numbers halfwords aims lines o → Unfolded text names numbers halfwords aims lines n flaw
     go (NoLine k) p e h = clash (cc)
     go (Items xs) p e h =
-        let same : n ≡ instructionsIn xs = cc in
-        (record { patterns = t; lines-read = rw p refl; holds = rw p h }, rw p same)
+        let count : n ≡ instructionsIn xs = cc in
+        let first : flaw ≡ flawAfter noFlaw [] xs = cc in
+        record {
+          known = record { all-read = rw p refl; holds = rw p (h .holds) };
+          size-aims = h .size-aims;
+          size-lines = h .size-lines;
+          noted = λ l. rw p (h .noted (omega (arith, l, count)));
+          count = rw p count;
+          flaw-is = rw p first;
+        }
+
+-- what a try tells, by cases
+abbrev pub Answers : Text → List ℕ → Assembled → List ℕ → Type 0
+Answers text out r after =
+    (r ≡ assembledAs (assembleOf text (length out))) × (after ≡ outputAfter (assembleOf text (length out)) out)
+
+module _ (text out : List ℕ) (room : ℕ) {after : List ℕ} {t : Tried} (tried : Tries text room out t after) where
+  pub answered : {r : Assembled} → t ≡ Answer r → Answers text out r after
+  answered e = subst (λ (u : Tried). Tries text room out u after) e tried
+
+  pub outgrown : t ≡ Outgrown → (room < mostCode) × (after ≡ out)
+  outgrown e = subst (λ (u : Tried). Tries text room out u after) e tried
+
+-- with the room as it was
+pub in-room : (text out after : List ℕ) (t : Tried) {room other : ℕ} → room ≡ other → Tries text room out t after
+    → Tries text other out t after
+in-room text out after t e tried = subst (λ (n : ℕ). Tries text n out t after) e tried
+
+-- to have outgrown some room says no less of none
+pub in-none : (text out after : List ℕ) (room : ℕ) (t : Tried) → Tries text room out t after → Tries text 0 out t after
+in-none text out after room (Answer r) tried = tried
+in-none text out after room Outgrown tried = (omega arith, tried .1)
+
+-- with the output as it was
+pub answers-again : (text : List ℕ) {out now after : List ℕ} {r : Assembled} → now ≡ out → Answers text now r after
+    → Answers text out r after
+answers-again text {after = after} {r = r} e a = subst (λ (o : List ℕ). Answers text o r after) e a

@@ -1,9 +1,15 @@
 pub mod Table
-pub mod Walk
-mod Names
 mod Rows
-mod Sayings
-mod Left
+pub mod Counts
+mod Names
+mod Making
+mod Prefix
+mod Steps
 mod Scanning
+mod Rowwise
+mod Noting
+pub mod Walk
+mod Sayings
 mod Translating
+mod Saying
 mod Assembling

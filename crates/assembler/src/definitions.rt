@@ -4,22 +4,18 @@ use labels::Labelled;
 use labels::lookup;
 use syntax::Parsed;
 use syntax::parse;
-use text::line_end;
 ghost use mathlib.Core.Bool.{_&&_};
 ghost use mathlib.Core.Path.{_≡_};
 ghost use Prim.Native.Nat.{_<_};
 ghost use lib.Dec.{eqb};
-ghost use Rattle.text.specs.Text.{linesOf};
-ghost use Rattle.syntax.specs.Table.{patternTable};
 ghost use Rattle.syntax.specs.Syntax.{labelRow};
-ghost use Rattle.assembler.specs.Assemble.{readFrom, Read, definitionOf};
-ghost use Rattle.assembler.specs.Passes.{Ready, itemsOf, definitionIn};
+ghost use Rattle.assembler.specs.Labels.{aimOf};
+ghost use Rattle.assembler.specs.Passes.{AllRead, Known, itemsOf, aimIn};
 ghost use Rattle.assembler.specs.Reading.{countAfter};
 
-// A name's first definition: its line, and the number of the instruction that
-// follows.
+// A name's first definition: the number of the instruction that follows.
 pub enum Found {
-    At { line: u64, number: u64 },
+    At(u64),
     Nowhere,
 }
 
@@ -34,7 +30,7 @@ fn defines(row: usize, value: u64, name: u64) -> bool
 }
 
 // The number of the instruction after a line of this row.
-fn next_number(row: usize, i: u64) -> u64
+pub(crate) fn next_number(row: usize, i: u64) -> u64
     requires { ⌜ i < 18446744073709551615 ⌝ }
     ensures { λ r. ⌜ r ≡ countAfter row i ⌝ }
 {
@@ -45,46 +41,36 @@ fn next_number(row: usize, i: u64) -> u64
 }
 
 // Goes through the lines from the top.
-fn scan(table: &[u8], text: &[u8], name: u64) -> Found
-    requires { ⌜ (now table ≡ patternTable) × (readFrom 1 (linesOf (now text)) ≡ Read.Items (itemsOf (now text))) ⌝ }
-    ensures { λ r. ⌜ definitionIn r ≡ definitionOf name (itemsOf (now (text .entry))) ⌝ }
+pub(crate) fn scan(text: &[u8], name: u64) -> Found
+    requires { ⌜ AllRead (now text) ⌝ }
+    ensures { λ r. ⌜ aimIn r ≡ aimOf (itemsOf (now (text .entry))) name ⌝ }
 {
     let mut at = 0;
-    let mut k: u64 = 1;
     let mut i: u64 = 0;
     while at < text.len() {
-        let end = line_end(text, at);
-        let Parsed::Line(item) = parse(table, &text[at..end]) else {
+        let Parsed::Line { item, next } = parse(text, at) else {
             return Found::Nowhere;
         };
         let row = item.row;
         let values = item.values;
         if defines(row, values.a, name) {
-            return Found::At { line: k, number: i };
+            return Found::At(i);
         }
         i = next_number(row, i);
-        at = end + 1;
-        k += 1;
+        at = next;
     }
     Found::Nowhere
 }
 
-pub(crate) fn definition_of(
-    table: &[u8],
-    text: &[u8],
-    names: &[u64],
-    lines: &[u64],
-    numbers: &[u64],
-    name: u64,
-) -> Found
-    requires { ⌜ Ready (now table) (now text) (now names) (now lines) (now numbers) ⌝ }
+pub(crate) fn definition_of(text: &[u8], names: &[u64], numbers: &[u64], name: u64) -> Found
+    requires { ⌜ Known (now text) (now names) (now numbers) ⌝ }
     requires { ⌜ (name ≡ 0 → ⊥) ⌝ }
-    ensures { λ r. ⌜ definitionIn r ≡ definitionOf name (itemsOf (now (text .entry))) ⌝ }
+    ensures { λ r. ⌜ aimIn r ≡ aimOf (itemsOf (now (text .entry))) name ⌝ }
 {
-    let known = lookup(names, lines, numbers, name);
+    let known = lookup(names, numbers, name);
     match known {
-        Labelled::Defined { line, number } => Found::At { line, number },
+        Labelled::Defined(number) => Found::At(number),
         Labelled::Undefined => Found::Nowhere,
-        Labelled::Unknown => scan(table, text, name),
+        Labelled::Unknown => scan(text, name),
     }
 }

@@ -23,7 +23,7 @@ pub enum Meaning {
 // A register's number, or a field's value, as a byte. No line has a register
 // above 15, and to the encoder 255 is none either; a field's value is tested
 // beside.
-fn narrow(v: u64) -> u8
+pub(crate) fn narrow(v: u64) -> u8
     ensures { λ r. ⌜ r ≡ min v 255 ⌝ }
 {
     if v < 255 { v as u8 } else { 255 }
@@ -60,7 +60,7 @@ fn in_fours(v: u64, most: u64, i: Instruction) -> Meaning
 }
 
 // A branch of instruction `i` to instruction `j`.
-fn branching(cond: u8, i: u64, j: u64) -> Meaning
+pub(crate) fn branching(cond: u8, i: u64, j: u64) -> Meaning
     ensures { λ r. ⌜ r ≡ fieldMeaning (given (inReach i j) (Instruction.Branch cond (branchByte i j))) ⌝ }
 {
     if i <= j {

@@ -1,5 +1,6 @@
 // The assembler: the code of a text.
 mod assembler;
+mod columns;
 mod definitions;
 mod fields;
 mod reader;

@@ -1,19 +1,16 @@
-// The second and third pass over a text: checks 22 and 23 line by line, and the
-// halfwords.
+// What the notes of the instructions come to, now that all labels are known: checks
+// 22 and 23, and the halfwords.
+use super::columns::put;
 use super::definitions::Found;
 use super::definitions::definition_of;
 use super::fields::Meaning;
-use super::fields::field_of;
-use syntax::Item;
-use syntax::Parsed;
-use syntax::parse;
-use text::line_end;
+use super::fields::branching;
+use super::reader::Flaw;
 ghost use mathlib.Core.Path.{_≡_};
-ghost use Prim.Native.Nat.{_<_};
-ghost use lib.ListN.{set};
-ghost use Rattle.assembler.specs.Assemble.{saidAt, labelSaid, branchSaid, checkFrom};
-ghost use Rattle.assembler.specs.Passes.{Ready, itemsOf, itemIn, definitionIn, saidAs};
-ghost use Rattle.assembler.specs.Passes.{numberAfter, outAfter, translatedAs, Written, Named};
+ghost use Prim.Native.Nat.{_%_};
+ghost use Rattle.assembler.specs.Assemble.{checkFrom};
+ghost use Rattle.assembler.specs.Passes.{Known, Ready, itemsOf, aimIn, aimedMeaning, notedMeaning, isAbove};
+ghost use Rattle.assembler.specs.Passes.{madeOf, outAfter, translatedAs, Written};
 
 // What became of a pass: the number and the line of the first check that fails.
 pub enum Translated {
@@ -21,119 +18,92 @@ pub enum Translated {
     Fault { number: u8, line: u64 },
 }
 
-// A label on line `k`, whose name is first defined as found.
-fn label_said(found: Found, k: u64) -> Meaning
-    ensures { λ r. ⌜ r ≡ saidAs (labelSaid k (definitionIn found)) ⌝ }
-{
-    match found {
-        Found::Nowhere => Meaning::Nothing,
-        Found::At { line, number: _ } => {
-            if line == k {
-                Meaning::Nothing
-            } else {
-                Meaning::Fault(22)
-            }
-        }
-    }
-}
-
-// A branch, instruction `i`, whose name is first defined as found.
-fn branch_said(item: Item, i: u64, found: Found) -> Meaning
-    ensures { λ r. ⌜ r ≡ saidAs (branchSaid (itemIn item) i (definitionIn found)) ⌝ }
+// A branch, instruction `i`, whose name is found so.
+fn aimed(cond: u8, i: u64, found: Found) -> Meaning
+    ensures { λ r. ⌜ r ≡ aimedMeaning cond i (aimIn found) ⌝ }
 {
     match found {
         Found::Nowhere => Meaning::Fault(22),
-        Found::At { line: _, number } => field_of(item, i, number),
+        Found::At(number) => branching(cond, i, number),
     }
 }
 
-// What line `k` says, before which there are `i` instructions.
-fn said_of(
-    table: &[u8],
-    text: &[u8],
-    names: &[u64],
-    lines: &[u64],
-    numbers: &[u64],
-    item: Item,
-    k: u64,
-    i: u64,
-) -> Meaning
-    requires { ⌜ Ready (now table) (now text) (now names) (now lines) (now numbers) ⌝ }
-    requires { ⌜ Named item ⌝ }
-    ensures { λ r. ⌜ r ≡ saidAs (saidAt (itemsOf (now (text .entry))) k i (itemIn item)) ⌝ }
+// What instruction `i` says, by its notes.
+fn said_of(text: &[u8], names: &[u64], numbers: &[u64], halfword: u16, aim: u64, i: u64) -> Meaning
+    requires { ⌜ Known (now text) (now names) (now numbers) ⌝ }
+    ensures { λ r. ⌜ r ≡ notedMeaning (itemsOf (now (text .entry))) i halfword aim ⌝ }
 {
-    let row = item.row;
-    let values = item.values;
-    match row {
-        0 => label_said(
-            definition_of(table, text, names, lines, numbers, values.a),
-            k,
-        ),
-        17 => branch_said(
-            item,
-            i,
-            definition_of(table, text, names, lines, numbers, values.b),
-        ),
-        _ => field_of(item, i, 0),
+    if aim == 0 {
+        return Meaning::Halfword(halfword);
     }
+    aimed(
+        (halfword % 256) as u8,
+        i,
+        definition_of(text, names, numbers, aim),
+    )
 }
 
-// Puts a halfword into its place, if the output has it.
-fn put(out: &mut [u16], i: u64, h: u16)
-    ensures { λ _. ⌜ now (out .exit) ≡ set (now (out .entry)) i h ⌝ }
+// Whether a flaw lies above a line.
+fn is_above(flaw: Flaw, k: u64) -> bool
+    ensures { λ r. ⌜ r ≡ isAbove flaw k ⌝ }
 {
-    let at = i as usize;
-    if out.len() <= at {
-        return;
+    if flaw.number == 0 {
+        return false;
     }
-    out[at] = h;
+    flaw.line < k
 }
 
-// Puts a line's halfword, and answers the number of the next.
-fn emit(out: &mut [u16], i: u64, said: Meaning) -> u64
-    requires { ⌜ i < 18446744073709551615 ⌝ }
-    ensures { λ r. ⌜ (r ≡ numberAfter said i) × (now (out .exit) ≡ outAfter said i (now (out .entry))) ⌝ }
+// Puts an instruction's halfword.
+fn emit(out: &mut [u16], i: u64, said: Meaning)
+    ensures { λ _. ⌜ now (out .exit) ≡ outAfter said i (now (out .entry)) ⌝ }
 {
     match said {
-        Meaning::Nothing => i,
-        Meaning::Halfword(h) => {
-            put(out, i, h);
-            i + 1
-        }
-        Meaning::Fault(_) => i,
+        Meaning::Nothing => {}
+        Meaning::Halfword(h) => put(out, i, h),
+        Meaning::Fault(_) => {}
     }
 }
 
-// Goes through the lines from the top, and puts their halfwords as far as the
-// output reaches. The second pass lends none, and the third the output.
+// Goes through the notes of `n` instructions, and puts their halfwords as far as
+// the output reaches. The second pass lends none, and the third the output.
 pub(crate) fn translate(
-    table: &[u8],
     text: &[u8],
     names: &[u64],
-    lines: &[u64],
     numbers: &[u64],
+    halfwords: &[u16],
+    aims: &[u64],
+    lines: &[u64],
+    n: usize,
+    flaw: Flaw,
     out: &mut [u16],
 ) -> Translated
-    requires { ⌜ Ready (now table) (now text) (now names) (now lines) (now numbers) ⌝ }
-    ensures { λ r. ⌜ r ≡ translatedAs (checkFrom (itemsOf (now (text .entry))) 1 0 (itemsOf (now (text .entry)))) ⌝ }
-    ensures { λ _. ⌜ Written (checkFrom (itemsOf (now (text .entry))) 1 0 (itemsOf (now (text .entry)))) 0
+    requires { ⌜ Ready (now text) (now names) (now numbers) (now halfwords) (now aims) (now lines) n flaw ⌝ }
+    ensures { λ r. ⌜ r ≡ translatedAs
+        (madeOf (checkFrom (itemsOf (now (text .entry))) 1 0 (itemsOf (now (text .entry))))) ⌝ }
+    ensures { λ _. ⌜ Written (madeOf (checkFrom (itemsOf (now (text .entry))) 1 0 (itemsOf (now (text .entry))))) 0
         (now (out .entry)) (now (out .exit)) ⌝ }
 {
-    let mut at = 0;
-    let mut k: u64 = 1;
-    let mut i: u64 = 0;
-    while at < text.len() {
-        let end = line_end(text, at);
-        let Parsed::Line(item) = parse(table, &text[at..end]) else {
-            return Translated::Done;
-        };
-        let said = said_of(table, text, names, lines, numbers, item, k, i);
+    let mut i = 0;
+    while i < n {
+        let k = lines[i];
+        if is_above(flaw, k) {
+            return Translated::Fault {
+                number: flaw.number,
+                line: flaw.line,
+            };
+        }
+        let said = said_of(text, names, numbers, halfwords[i], aims[i], i as u64);
         if let Meaning::Fault(number) = said {
             return Translated::Fault { number, line: k };
         }
-        i = emit(out, i, said);
-        at = end + 1;
-        k += 1;
+        emit(out, i as u64, said);
+        i += 1;
     }
-    Translated::Done
+    if flaw.number == 0 {
+        return Translated::Done;
+    }
+    Translated::Fault {
+        number: flaw.number,
+        line: flaw.line,
+    }
 }

@@ -2,7 +2,6 @@
 mod table;
 
 pub use table::Labelled;
-pub use table::PLACES;
 pub use table::Probed;
 pub use table::define;
 pub use table::lookup;

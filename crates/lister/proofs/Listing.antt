@@ -1,6 +1,6 @@
 -- A listing, instruction by instruction.
-use mathlib.Core.Bool.{Bool, true, false}
-use mathlib.Core.List.{List, [], _∷_}
+use mathlib.Core.Bool.{Bool}
+use mathlib.Core.List.{List}
 use mathlib.Core.Path.{_≡_, refl, ap, _∙_}
 use Prim.Native.Nat.{ℕ, zero, suc, _+_, _*_, _≤_, _<_}
 use native.Mathlib.Decide.{le-ind}
@@ -12,28 +12,13 @@ use Rattle.units.specs.declared.address.ByteAddress.{ByteAddress}
 use Rattle.units.specs.declared.address.InstructionIndex.{InstructionIndex}
 use Rattle.isa.specs.Decode.{decodeOf}
 use Rattle.isa.specs.declared.decoder.Decoded.{Decoded}
-use Rattle.isa.specs.declared.decoder.Decoded.the-variants.{Defined, Undefined}
 use Rattle.image.specs.Format.{mostCode}
 use Rattle.targets.specs.Targets.{addressOf, decodedAt, targeted, markedAt}
 use Rattle.text.specs.Text.{Text, written}
-use Rattle.text.proofs.Writing.{written-more, written-length, Wrote}
-use Rattle.syntax.specs.Syntax.{labelRow}
-use Rattle.lister.specs.List.{itemOf, labelLine, instructionLine, linesAt, listingBelow, listingOf}
+use Rattle.text.proofs.Writing.{written-more, written-length}
+use Rattle.lister.specs.List.{labelLine, instructionLine, linesAt, listingBelow, listingOf}
 use Rattle.lister.specs.Passes.{linesWith, Labelled}
-use Rattle.lister.proofs.Items.{item-short, line-most}
-
--- a label and a line are not longer than two lines
-label-most : (t : Bool) (a : ByteAddress) → length (labelLine t a) ≤ 31
-label-most true a = line-most labelRow (a .0 ∷ []) (omega arith)
-label-most false a = omega arith
-
-pub instruction-most : (a : ByteAddress) (d : Decoded) → length (instructionLine a d) ≤ 31
-instruction-most a (Defined i) = line-most (itemOf a i .row) (itemOf a i .values) (item-short a i .row)
-instruction-most a Undefined = omega arith
-
-pub lines-most : (t : Bool) (a : ByteAddress) (d : Decoded)
-    → length (labelLine t a) + length (instructionLine a d) ≤ 62
-lines-most t a d = omega (arith, label-most t a, instruction-most a d)
+use Rattle.lister.proofs.Lines.{lines-most}
 
 -- one instruction more
 module _ (code : List ℕ) where
@@ -42,12 +27,12 @@ module _ (code : List ℕ) where
   unfolding listingBelow
   listing-more n = length-append (listingBelow code n) (linesAt code n)
 
-  lines-at-most : (n : ℕ) → length (linesAt code n) ≤ 62
-  unfolding linesAt
+  lines-at-most : (n : ℕ) → length (linesAt code n) ≤ 27
+  unfolding linesAt decodedAt
   lines-at-most n =
-      simp length-append (omega (arith, lines-most (targeted code n) (addressOf n) (decodedAt code n)))
+      simp length-append (omega (arith, lines-most (targeted code n) (addressOf n) (getD code n 0)))
 
-  pub listing-most : (n : ℕ) → length (listingBelow code n) ≤ 62 * n
+  pub listing-most : (n : ℕ) → length (listingBelow code n) ≤ 27 * n
   unfolding listingBelow
   listing-most zero = omega arith
   listing-most (suc n) = omega (arith, listing-most n, listing-more n, lines-at-most n)
@@ -75,7 +60,7 @@ module _ (code marks : List ℕ) (is : Labelled code marks) (k : ℕ) (inside : 
       rw add-one (omega (arith, listing-more code k))
 
   pub measured-small : (n r : ℕ) → n ≡ length (listingBelow code k)
-      → r ≡ length (linesWith (markedAt marks k) (addressOf k) (decodeOf (getD code k 0))) → n + r ≤ 62 * mostCode
+      → r ≡ length (linesWith (markedAt marks k) (addressOf k) (decodeOf (getD code k 0))) → n + r ≤ 27 * mostCode
   measured-small n r e f =
       omega (arith, measured-more n r e f, listing-most code (k + 1), number-small)
 
@@ -100,23 +85,18 @@ module _ (code marks : List ℕ) (is : Labelled code marks) (k : ℕ) (inside : 
           put .1 ∙ rw (lines-are, behind, f, add-one) (written-more 0 (listingBelow code k) (linesAt code k) out),
         )
 
--- a text by another name
-pub wrote-as : {at r : ℕ} {s t before after : Text} → s ≡ t → Wrote at s before r after → Wrote at t before r after
-wrote-as e w = rw (← e) w
-
 -- label and line, at the address and with the mark of instruction i
 module _ (marks : List ℕ) (i : InstructionIndex) (a : ByteAddress) (there : a ≡ byteAddressOf i) (t : Bool)
     (told : t ≡ markedAt marks (i .0)) (d : Decoded) where
   pub lines-told : linesWith t a d ≡ linesWith (markedAt marks (i .0)) (byteAddressOf i) d
   lines-told = rw (there, told) refl
 
-  pub length-told : (n m : ℕ) → n ≡ length (labelLine t a) → m ≡ length (instructionLine a d)
-      → n + m ≡ length (linesWith (markedAt marks (i .0)) (byteAddressOf i) d)
-  length-told n m e f =
-      omega (arith, length-append (labelLine t a) (instructionLine a d)) ∙ ap length lines-told
-
   pub lines-inside : (at : ℕ) (room : Text)
       → at + length (linesWith (markedAt marks (i .0)) (byteAddressOf i) d) ≤ length room
       → at + (length (labelLine t a) + length (instructionLine a d)) ≤ length room
   lines-inside at room h =
       omega (arith, ap length lines-told, length-append (labelLine t a) (instructionLine a d))
+
+-- their length
+pub lines-short : (t : Bool) (a : ByteAddress) (h : ℕ) → length (linesWith t a (decodeOf h)) ≤ 27
+lines-short t a h = omega (arith, length-append (labelLine t a) (instructionLine a (decodeOf h)), lines-most t a h)

@@ -2,9 +2,9 @@
 use mathlib.Core.Bool.{Bool, true, false, not, cond}
 use mathlib.Core.List.{List, [], _∷_, _++_}
 use mathlib.Core.Path.{_≡_, refl, sym, ap, ap₂, _∙_}
-use Prim.Native.Nat.{ℕ, zero, suc, _+_, _-_, _≤_, _<_}
+use Prim.Native.Nat.{ℕ, zero, suc, _+_, _-_, _≤_}
 use native.Mathlib.Omega.{arith}
-use borrow.Author.Tests.{leb-true, le-leb, lt-leb, not-true, not-false}
+use borrow.Author.Tests.{leb-true, not-true, not-false}
 use lib.Dec.{leb}
 use lib.ListN.{length, drop, replicate, length-append, length-drop, length-replicate}
 use lib.Seq.{sets-eq, length-take-le}
@@ -71,23 +71,24 @@ module _ (code : List ℕ) (size : ℕ) where
     all-instructions e = rw e at then-rows
 
 -- check 16
-module _ (code : List ℕ) (out : Text) (n : ℕ) (is : n ≡ length (listingOf code)) where
-  pub no-room : {r : Refusal} → length out < n → r ≡ refusal 16 → fittedOf code (length out) ≡ Refuses r
+module _ (code : List ℕ) (out : Text) (t : Bool) (is : t ≡ check16 code (length out)) where
+  pub no-room : {r : Refusal} → not t ≡ true → r ≡ refusal 16 → fittedOf code (length out) ≡ Refuses r
   unfolding firstNo
-  no-room h e =
-      let short : length out < length (listingOf code) = omega arith in
-      simp (e, lt-leb (length (listingOf code)) (length out) short)
+  no-room e q = simp (q, sym is ∙ not-true t e)
 
-  pub with-room : n ≤ length out → fittedOf code (length out) ≡ Lists (listingOf code)
-  unfolding firstNo
-  with-room h =
-      let long : length (listingOf code) ≤ length out = omega arith in
-      simp (le-leb (length (listingOf code)) (length out) long)
+  module _ (held : not t ≡ false) where
+    pub has-room : length (listingOf code) ≤ length out
+    has-room = leb-true (length (listingOf code)) (length out) (sym is ∙ not-false t held)
 
-  pub done : (after : Text) → n ≤ length out → after ≡ written 0 (listingOf code) out
-      → (listed.Done n ≡ listedAs (fittedOf code (length out))) × (after ≡ outputAfter (fittedOf code (length out)) out)
-  done after h e =
-      rw (with-room h) (ap listed.Done is, e ∙ written-front (listingOf code) out (omega arith))
+    with-room : fittedOf code (length out) ≡ Lists (listingOf code)
+    unfolding firstNo
+    with-room = simp (sym is ∙ not-false t held)
+
+    pub done : (n : ℕ) (after : Text) → (n ≡ length (listingOf code)) × (after ≡ written 0 (listingOf code) out)
+        → (listed.Done n ≡ listedAs (fittedOf code (length out)))
+        × (after ≡ outputAfter (fittedOf code (length out)) out)
+    done n after put =
+        rw with-room (ap listed.Done (put .0), put .1 ∙ written-front (listingOf code) out has-room)
 
 -- the output stays as long as it was
 pub after-length : (code : List ℕ) (out : Text) → length (outputAfter (fittedOf code (length out)) out) ≡ length out
@@ -112,7 +113,7 @@ drop-zeros (suc k) (suc n) =
 abbrev line : Text → ℕ → Line
 line bytes n = record { bytes = bytes; length = n }
 
-module _ (t : Text) (short : length t ≤ 31) (n : ℕ) (bytes : Text)
+module _ (t : Text) (short : length t ≤ 19) (n : ℕ) (bytes : Text)
     (put : (n ≡ 0 + length t) × (bytes ≡ written 0 t (replicate lineBytes 0))) where
   bytes-are : bytes ≡ t ++ replicate (lineBytes - length t) 0
   bytes-are =

@@ -1,3 +1,4 @@
 pub mod List
+pub mod Lines
 pub mod Passes
 pub mod Show

@@ -3,7 +3,7 @@ use mathlib.Core.Bool.{Bool, cond}
 use mathlib.Core.List.{List, [], _∷_, _++_}
 use mathlib.Core.Path.{_≡_}
 use Prim.Native.Nat.{ℕ, _<_, _≤_}
-use lib.ListN.{length, getD}
+use lib.ListN.{length}
 use Rattle.units.specs.declared.address.ByteAddress.{ByteAddress}
 use Rattle.isa.specs.declared.decoder.Decoded.{Decoded}
 use Rattle.isa.specs.declared.decoder.Decoded.the-variants.{Defined, Undefined}
@@ -15,20 +15,7 @@ use Rattle.image.specs.declared.checker.Layout.{Layout}
 use Rattle.targets.specs.Targets.{targeted, markedAt}
 use Rattle.checks.specs.Questions.{check13}
 use Rattle.text.specs.Text.{Text}
-use Rattle.syntax.specs.Syntax.{Item, labelRow}
-use Rattle.syntax.specs.declared.writer.Form.{Form}
 use Rattle.lister.specs.List.{labelLine, instructionLine, checksAt, listingOf, check16, Listing, listingAs}
-
--- a line to be written, and that of an item
-abbrev pub formOf : ℕ → ℕ → ℕ → ℕ → Form
-formOf row a b c = record { row = row; a = a; b = b; c = c }
-
-abbrev pub formWith : Item → Form
-formWith x = formOf (x .row) (getD (x .values) 0 0) (getD (x .values) 1 0) (getD (x .values) 2 0)
-
--- the label of an address
-abbrev pub labelItem : ByteAddress → Item
-labelItem a = record { row = labelRow; values = a .0 ∷ [] }
 
 -- checks 9 and 13 of the halfword at an address as a number: that of the first which fails, or 0
 abbrev pub numberOf : Layout → ByteAddress → Decoded → ℕ

@@ -1,8 +1,10 @@
 // The lister: writes a code as an assembler text, with a label before every
 // branch target.
 mod checker;
-mod forms;
+mod letters;
 mod lister;
+mod names;
+mod operands;
 mod showing;
 mod writer;
 

@@ -6,10 +6,9 @@ use image::Answer;
 use image::MOST_CODE;
 use refusals::Refusal;
 use refusals::refusal_of;
-use syntax::PATTERNS;
 ghost use mathlib.Core.Path.{_≡_};
 ghost use lib.ListN.{length};
-ghost use Rattle.lister.specs.List.{check15, listOf, listedAs, outputAfter};
+ghost use Rattle.lister.specs.List.{check15, check16, listOf, listedAs, outputAfter};
 ghost use Rattle.lister.specs.Passes.{Labelled, fittedOf};
 
 // The lister's answer: the length of the text that the output holds, or the first
@@ -29,20 +28,33 @@ fn is_program(code: &[u16]) -> bool
     code.len() <= MOST_CODE
 }
 
-// Check 16 of a code that passes the others, and its listing.
+// The most bytes that a listing has for each instruction: the longest line is that
+// of STRB, and a branch and its label have no more together.
+const MOST_EACH: usize = 19;
+
+// Check 16 of a code that passes the others. Where the room is enough for any code
+// of the length, the listing is not measured.
+fn has_room(code: &[u16], marks: &[u64; 249], room: usize) -> bool
+    requires { ⌜ Labelled (now code) (now marks) ⌝ }
+    ensures { λ r. ⌜ r ≡ check16 (now (code .entry)) room ⌝ }
+{
+    if MOST_EACH * code.len() <= room {
+        return true;
+    }
+    measure(code, marks) <= room
+}
+
+// Check 16, and the listing.
 fn write_listing(code: &[u16], marks: &[u64; 249], out: &mut [u8]) -> Listed
     requires { ⌜ Labelled (now code) (now marks) ⌝ }
     ensures { λ r. ⌜ (r ≡ listedAs (fittedOf (now (code .entry)) (length (now (out .entry)))))
         × (now (out .exit)
         ≡ outputAfter (fittedOf (now (code .entry)) (length (now (out .entry)))) (now (out .entry))) ⌝ }
 {
-    let table = PATTERNS;
-    let n = measure(&table, code, marks);
-    if out.len() < n {
+    if !has_room(code, marks, out.len()) {
         return Listed::Refused(refusal_of(16));
     }
-    write(&table, code, marks, out);
-    Listed::Done(n)
+    Listed::Done(write(out, code, marks))
 }
 
 // Writes a code as a text: a line for each instruction, and before each that a

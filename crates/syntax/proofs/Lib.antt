@@ -1,7 +1,10 @@
-mod Numbers
-mod Naming
-mod Matching
-mod Rowing
+mod Fits
+mod Steps
+mod Digits
+mod Registers
+mod Names
+mod Conditions
+mod Arguments
+mod Heads
 pub mod Patterns
 pub mod Rows
-pub mod Writing

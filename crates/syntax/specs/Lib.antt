@@ -1,5 +1,5 @@
 pub mod Syntax
-pub mod Table
 pub mod Slots
 pub mod Parser
-pub mod Writer
+pub mod Spots
+pub mod Found

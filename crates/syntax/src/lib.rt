@@ -1,15 +1,10 @@
-// The syntax of an assembler text: its lines by patterns with slots, read and
-// written by one table.
+// The syntax of an assembler text: its lines, read straight from the text. The
+// definition has a pattern with slots for each.
+mod operands;
 mod parser;
 mod slots;
-mod table;
-mod writer;
 
 pub use parser::Item;
 pub use parser::Parsed;
 pub use parser::Values;
 pub use parser::parse;
-pub use table::PATTERNS;
-pub use writer::Form;
-pub use writer::line_length;
-pub use writer::put_line;

@@ -1,18 +1,23 @@
-// What words say in the slots of a line.
-use text::is_name;
-use text::is_number;
-use text::name_value;
-ghost use mathlib.Core.Bool.{true};
+// Words in the slots of a line, read from a place of a text. None of them looks at
+// what follows its word: in every pattern that is a character that no word has, so
+// a word that goes on is refused there.
+use text::byte_at;
+use text::in_name;
+use text::is_digit;
+use text::is_small;
+ghost use mathlib.Core.Bool.{true, false};
 ghost use mathlib.Core.Path.{_≡_};
-ghost use Prim.Native.Nat.{_≤_, min};
-ghost use Rattle.text.specs.Text.{isDigit, every, numberOf};
-ghost use Rattle.syntax.specs.Syntax.{numberValue, registerValue, conditionValue, nameValue, slotValue, tooLarge};
+ghost use Prim.Native.Nat.{_+_, _≤_, min};
+ghost use lib.ListN.{length, drop};
+ghost use Rattle.text.specs.Text.{isDigit};
+ghost use Rattle.syntax.specs.Syntax.{tooLarge};
 ghost use Rattle.syntax.specs.Slots.{slotAs, withDigit, lettersValue};
+ghost use Rattle.syntax.specs.Spots.{Spotted, Register, Digits, beginsDigit};
 
-// What a word says in a slot, if it may stand there.
-pub enum Slot {
-    Value(u64),
-    Nothing,
+// What a word says, and where it ends: where it starts if none may stand there.
+pub struct Spot {
+    pub value: u64,
+    pub stop: usize,
 }
 
 // No field holds so much.
@@ -27,61 +32,120 @@ fn with_digit(value: u64, c: u8) -> u64
     if next < TOO_LARGE { next } else { TOO_LARGE }
 }
 
-// The value of digits.
-fn value_of(word: &[u8]) -> u64
-    requires { ⌜ every isDigit (now word) ≡ true ⌝ }
-    ensures { λ r. ⌜ r ≡ min (numberOf (now (word .entry))) tooLarge ⌝ }
+// All digits from a place on, behind a number that stands before them.
+fn digits_from(text: &[u8], at: usize, first: u64) -> Spot
+    requires { ⌜ (at ≤ length (now text)) × (first ≤ tooLarge) ⌝ }
+    ensures { λ r. ⌜ Digits (now (text .entry)) at first (r .value) (r .stop)
+        × (beginsDigit (drop (r .stop) (now (text .entry))) ≡ false) ⌝ }
 {
-    let mut value = 0;
-    let mut i = 0;
-    while i < word.len() {
-        value = with_digit(value, word[i]);
+    let mut value = first;
+    let mut i = at;
+    while i < text.len() {
+        let c = text[i];
+        if !is_digit(c) {
+            return Spot { value, stop: i };
+        }
+        value = with_digit(value, c);
         i += 1;
     }
-    value
+    Spot { value, stop: i }
 }
 
-// What a word says as a number.
-fn number_of(word: &[u8]) -> Slot
-    ensures { λ r. ⌜ r ≡ slotAs (numberValue (now (word .entry))) ⌝ }
+// A number. A zero has no digit behind it.
+pub(crate) fn number_at(text: &[u8], at: usize) -> Spot
+    requires { ⌜ at ≤ length (now text) ⌝ }
+    ensures { λ r. ⌜ Spotted 110 (now (text .entry)) at (r .value) (r .stop) ⌝ }
 {
-    if is_number(word) {
-        Slot::Value(value_of(word))
+    let first = byte_at(text, at);
+    if !is_digit(first) {
+        return Spot { value: 0, stop: at };
+    }
+    if first == b'0' {
+        return Spot {
+            value: 0,
+            stop: at + 1,
+        };
+    }
+    digits_from(text, at + 1, (first - b'0') as u64)
+}
+
+// A register, R0 to R15.
+pub(crate) fn register_at(text: &[u8], at: usize) -> Spot
+    requires { ⌜ at ≤ length (now text) ⌝ }
+    ensures { λ r. ⌜ Register (now (text .entry)) at (r .value) (r .stop) ⌝ }
+{
+    if byte_at(text, at) != b'R' {
+        return Spot { value: 0, stop: at };
+    }
+    let d = byte_at(text, at + 1);
+    if !is_digit(d) {
+        return Spot { value: 0, stop: at };
+    }
+    if d != b'1' {
+        return Spot {
+            value: (d - b'0') as u64,
+            stop: at + 2,
+        };
+    }
+    let e = byte_at(text, at + 2);
+    if e < b'0' {
+        return Spot {
+            value: 1,
+            stop: at + 2,
+        };
+    }
+    if b'5' < e {
+        return Spot {
+            value: 1,
+            stop: at + 2,
+        };
+    }
+    Spot {
+        value: (e - 38) as u64,
+        stop: at + 3,
+    }
+}
+
+// Where a name that starts at a place must end: it has eight characters at most.
+fn name_limit(text: &[u8], at: usize) -> usize
+    requires { ⌜ at ≤ length (now text) ⌝ }
+    ensures { λ r. ⌜ r ≡ min (at + 8) (length (now (text .entry))) ⌝ }
+{
+    if text.len() - at < 8 {
+        text.len()
     } else {
-        Slot::Nothing
+        at + 8
     }
 }
 
-// What a word says as one of the first `count` registers.
-fn register_of(word: &[u8], count: u64) -> Slot
-    ensures { λ r. ⌜ r ≡ slotAs (registerValue count (now (word .entry))) ⌝ }
+// A name: a small letter, and up to seven small letters or digits behind it. Its
+// value is its bytes as one number, the first the highest.
+pub(crate) fn name_at(text: &[u8], at: usize) -> Spot
+    requires { ⌜ at ≤ length (now text) ⌝ }
+    ensures { λ r. ⌜ Spotted 108 (now (text .entry)) at (r .value) (r .stop) ⌝ }
 {
-    if word.len() == 0 {
-        return Slot::Nothing;
+    let first = byte_at(text, at);
+    if !is_small(first) {
+        return Spot { value: 0, stop: at };
     }
-    if word[0] != b'R' {
-        return Slot::Nothing;
-    }
-    match number_of(&word[1..]) {
-        Slot::Value(v) => {
-            if v < count {
-                Slot::Value(v)
-            } else {
-                Slot::Nothing
-            }
+    let limit = name_limit(text, at);
+    let mut value = first as u64;
+    let mut i = at + 1;
+    while i < limit {
+        let c = text[i];
+        if !in_name(c) {
+            return Spot { value, stop: i };
         }
-        Slot::Nothing => Slot::Nothing,
+        value = value * 256 + c as u64;
+        i += 1;
     }
+    Spot { value, stop: i }
 }
 
-fn name_of(word: &[u8]) -> Slot
-    ensures { λ r. ⌜ r ≡ slotAs (nameValue (now (word .entry))) ⌝ }
-{
-    if is_name(word) {
-        Slot::Value(name_value(word))
-    } else {
-        Slot::Nothing
-    }
+// A condition's number, if there is one.
+pub enum Slot {
+    Value(u64),
+    Nothing,
 }
 
 // A condition's number, by its two letters as one number.
@@ -107,25 +171,19 @@ fn condition_number(letters: u16) -> Slot
     }
 }
 
-fn condition_of(word: &[u8]) -> Slot
-    ensures { λ r. ⌜ r ≡ slotAs (conditionValue (now (word .entry))) ⌝ }
+// A condition: its two letters.
+pub(crate) fn condition_at(text: &[u8], at: usize) -> Spot
+    requires { ⌜ at ≤ length (now text) ⌝ }
+    ensures { λ r. ⌜ Spotted 99 (now (text .entry)) at (r .value) (r .stop) ⌝ }
 {
-    if word.len() != 2 {
-        return Slot::Nothing;
-    }
-    condition_number((word[0] as u16) * 256 + word[1] as u16)
-}
-
-// What a word says in a slot.
-pub(crate) fn slot_of(slot: u8, word: &[u8]) -> Slot
-    ensures { λ r. ⌜ r ≡ slotAs (slotValue slot (now (word .entry))) ⌝ }
-{
-    match slot {
-        b'r' => register_of(word, 8),
-        b'h' => register_of(word, 16),
-        b'n' => number_of(word),
-        b'c' => condition_of(word),
-        b'l' => name_of(word),
-        _ => Slot::Nothing,
+    let first = byte_at(text, at);
+    let second = byte_at(text, at + 1);
+    let number = condition_number((first as u16) * 256 + second as u16);
+    match number {
+        Slot::Value(value) => Spot {
+            value,
+            stop: at + 2,
+        },
+        Slot::Nothing => Spot { value: 0, stop: at },
     }
 }

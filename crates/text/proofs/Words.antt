@@ -2,9 +2,11 @@
 -- again.
 use mathlib.Core.Bool.{Bool, true, false, cond, _&&_, _||_, and-eq-true-iff}
 use mathlib.Core.List.{[], _∷_, _++_}
-use mathlib.Core.Path.{_≡_, refl, ap}
+use mathlib.Core.Path.{_≡_, refl, ap, ap₂}
 use Prim.Native.Nat.{ℕ}
-use Rattle.text.specs.Text.{Text, inWord, every, word, afterWord}
+use mir.Facts.{and-yes}
+use lib.Dec.{T, eqb, eqb→eq}
+use Rattle.text.specs.Text.{Text, inWord, every, word, afterWord, sameText}
 
 -- a text begins with a letter or digit
 abbrev pub beginsWord : Text → Bool
@@ -68,3 +70,12 @@ word-back (c ∷ w) t h b =
     let e : inWord c ≡ true = and-left (inWord c) (every inWord w) h in
     let r : afterWord (w ++ t) ≡ t = word-back w t (and-right (inWord c) (every inWord w) h) b in
     simp (e, r)
+
+-- texts that a test finds to be the same
+pub same-text : (s t : Text) → T (sameText s t) → s ≡ t
+same-text [] [] e = refl
+same-text [] (d ∷ t) e = absurd e
+same-text (c ∷ s) [] e = absurd e
+same-text (c ∷ s) (d ∷ t) e =
+    let both = and-yes (eqb c d) (sameText s t) e in
+    ap₂ (λ (x : ℕ) (u : Text). x ∷ u) (eqb→eq c d (both .0)) (same-text s t (both .1))

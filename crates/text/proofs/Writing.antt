@@ -45,17 +45,15 @@ pub wrote-as : {at r : ℕ} {s t before after : Text} → t ≡ s → Wrote at s
 wrote-as e w = rw e w
 
 -- one text behind another
-pub wrote-more : {at n r : ℕ} {s t before between after : Text} → Wrote at s before n between
+infixl 5 _then_
+pub _then_ : {at n r : ℕ} {s t before between after : Text} → Wrote at s before n between
     → Wrote n t between r after → Wrote at (s ++ t) before r after
-wrote-more {at} {n} {r} {s} {t} {before} {between} p q = record {
+_then_ {at} {n} {r} {s} {t} {before} {between} p q = record {
   place = omega (arith, p .place, q .place, length-append s t);
   room =
       q .room ∙ ap (λ (k : ℕ). written k t between) (p .place) ∙ ap (written (at + length s) t) (p .room)
       ∙ written-more at s t before;
 }
-
-pub wrote-length : {at r : ℕ} {t before after : Text} → Wrote at t before r after → length after ≡ length before
-wrote-length {at} {r} {t} {before} p = ap length (p .room) ∙ written-length at t before
 
 -- a digit that isn't there, and one that is
 pub digit-none : (n unit : ℕ) → n < unit → digit n unit ≡ []
@@ -72,62 +70,6 @@ pub decimal-sum : (n : ℕ)
     → length (decimal n)
     ≡ length (digit n 10000) + length (digit n 1000) + length (digit n 100) + length (digit n 10) + 1
 decimal-sum n = rw (length-append, length-append, length-append, length-append)
-
-module _ (n : ℕ) where
-  pub one-digit : n < 10 → 1 ≡ length (decimal n)
-  one-digit h =
-      omega (
-        arith,
-        decimal-sum n,
-        digit-short n 10000 (omega arith),
-        digit-short n 1000 (omega arith),
-        digit-short n 100 (omega arith),
-        digit-short n 10 h,
-      )
-
-  pub two-digits : 10 ≤ n → n < 100 → 2 ≡ length (decimal n)
-  two-digits l h =
-      omega (
-        arith,
-        decimal-sum n,
-        digit-short n 10000 (omega arith),
-        digit-short n 1000 (omega arith),
-        digit-short n 100 h,
-        digit-one n 10 l,
-      )
-
-  pub three-digits : 100 ≤ n → n < 1000 → 3 ≡ length (decimal n)
-  three-digits l h =
-      omega (
-        arith,
-        decimal-sum n,
-        digit-short n 10000 (omega arith),
-        digit-short n 1000 h,
-        digit-one n 100 l,
-        digit-one n 10 (omega arith),
-      )
-
-  pub four-digits : 1000 ≤ n → n < 10000 → 4 ≡ length (decimal n)
-  four-digits l h =
-      omega (
-        arith,
-        decimal-sum n,
-        digit-short n 10000 h,
-        digit-one n 1000 l,
-        digit-one n 100 (omega arith),
-        digit-one n 10 (omega arith),
-      )
-
-  pub five-digits : 10000 ≤ n → 5 ≡ length (decimal n)
-  five-digits l =
-      omega (
-        arith,
-        decimal-sum n,
-        digit-one n 10000 l,
-        digit-one n 1000 (omega arith),
-        digit-one n 100 (omega arith),
-        digit-one n 10 (omega arith),
-      )
 
 -- what writing a digit leaves, where there is none and where there is one
 pub no-digit : (n unit at : ℕ) (room : Text) → n < unit → Wrote at (digit n unit) room at room
@@ -147,6 +89,53 @@ digit-at-most n unit = go (ltb n unit)
     go true = omega arith
     go false = omega arith
 
-pub decimal-at-most : (n : ℕ) → length (decimal n) ≤ 5
-decimal-at-most n =
-    omega (arith, decimal-sum n, digit-at-most n 10000, digit-at-most n 1000, digit-at-most n 100, digit-at-most n 10)
+module _ (n : ℕ) where
+  pub decimal-at-most : length (decimal n) ≤ 5
+  decimal-at-most =
+      omega (
+        arith,
+        decimal-sum n,
+        digit-at-most n 10000,
+        digit-at-most n 1000,
+        digit-at-most n 100,
+        digit-at-most n 10,
+      )
+
+  -- a number below 10 is its one digit
+  pub one-digit : n < 10 → decimal n ≡ (48 + n) ∷ []
+  one-digit h =
+      let ones : n % 10 ≡ n = omega arith in
+      simp (
+        digit-none n 10000 (omega arith),
+        digit-none n 1000 (omega arith),
+        digit-none n 100 (omega arith),
+        digit-none n 10 h,
+        ones,
+      )
+
+  pub two-at-most : n < 100 → length (decimal n) ≤ 2
+  two-at-most h =
+      omega (
+        arith,
+        decimal-sum n,
+        digit-short n 10000 (omega arith),
+        digit-short n 1000 (omega arith),
+        digit-short n 100 h,
+        digit-at-most n 10,
+      )
+
+  pub three-at-most : n < 1000 → length (decimal n) ≤ 3
+  three-at-most h =
+      omega (
+        arith,
+        decimal-sum n,
+        digit-short n 10000 (omega arith),
+        digit-short n 1000 h,
+        digit-at-most n 100,
+        digit-at-most n 10,
+      )
+
+-- a number of one digit is written as that
+pub digit-written : (n : ℕ) {at r : ℕ} {before after : Text} → n < 10 → Wrote at ((48 + n) ∷ []) before r after
+    → Wrote at (decimal n) before r after
+digit-written n h w = wrote-as (one-digit n h) w

@@ -1,27 +1,14 @@
-// Where words and lines end, and what they are made of.
-use super::characters::in_name;
-use super::characters::in_word;
-use super::characters::is_digit;
+// Bytes of a text, and where lines end.
 ghost use mathlib.Core.Path.{_≡_};
 ghost use Prim.Native.Nat.{_+_, _≤_, _<_};
-ghost use lib.ListN.{length, drop};
-ghost use Rattle.text.specs.Text.{isDigit, inName, every, word, lineLength};
+ghost use lib.ListN.{length, drop, getD};
+ghost use Rattle.text.specs.Text.{lineLength};
 
-// Where the word that starts at a place of a line ends: at the first character
-// that is no letter or digit, or with the line.
-pub fn word_end(line: &[u8], at: usize) -> usize
-    requires { ⌜ at ≤ length (now line) ⌝ }
-    ensures { λ r. ⌜ (r ≡ at + length (word (drop at (now (line .entry))))) × (at ≤ r)
-        × (r ≤ length (now (line .entry))) ⌝ }
+// The byte at a place, and 0 behind the text: no character that lines are made of.
+pub fn byte_at(text: &[u8], at: usize) -> u8
+    ensures { λ r. ⌜ r ≡ getD (now (text .entry)) at 0 ⌝ }
 {
-    let mut i = at;
-    while i < line.len() {
-        if !in_word(line[i]) {
-            return i;
-        }
-        i += 1;
-    }
-    i
+    if at < text.len() { text[at] } else { 0 }
 }
 
 // Where the line that starts at a place ends: at its line feed, or with the text.
@@ -38,31 +25,4 @@ pub fn line_end(text: &[u8], at: usize) -> usize
         i += 1;
     }
     i
-}
-
-pub(crate) fn all_digits(word: &[u8]) -> bool
-    ensures { λ r. ⌜ r ≡ every isDigit (now (word .entry)) ⌝ }
-{
-    let mut i = 0;
-    while i < word.len() {
-        if !is_digit(word[i]) {
-            return false;
-        }
-        i += 1;
-    }
-    true
-}
-
-// Small letters and digits.
-pub(crate) fn all_of_names(word: &[u8]) -> bool
-    ensures { λ r. ⌜ r ≡ every inName (now (word .entry)) ⌝ }
-{
-    let mut i = 0;
-    while i < word.len() {
-        if !in_name(word[i]) {
-            return false;
-        }
-        i += 1;
-    }
-    true
 }

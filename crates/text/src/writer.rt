@@ -14,25 +14,6 @@ pub fn put(room: &mut [u8], at: usize, c: u8) -> usize
     at + 1
 }
 
-// How many digits a number has in decimal, and so what room it takes.
-pub fn decimal_length(n: u16) -> usize
-    ensures { λ r. ⌜ r ≡ length (decimal n) ⌝ }
-{
-    if n < 10 {
-        return 1;
-    }
-    if n < 100 {
-        return 2;
-    }
-    if n < 1000 {
-        return 3;
-    }
-    if n < 10000 {
-        return 4;
-    }
-    5
-}
-
 // Writes the digit of a power of ten, if the number is so large.
 fn put_digit(room: &mut [u8], at: usize, n: u16, unit: u16) -> usize
     requires { ⌜ (at + length (digit n unit) ≤ length (now room)) × (0 < unit) ⌝ }
@@ -45,9 +26,8 @@ fn put_digit(room: &mut [u8], at: usize, n: u16, unit: u16) -> usize
     put(room, at, b'0' + (n / unit % 10) as u8)
 }
 
-// Writes a number in decimal into a room from a place on, and answers the place
-// behind it.
-pub fn put_decimal(room: &mut [u8], at: usize, n: u16) -> usize
+// Writes the digits of a number, each that it has.
+fn put_digits(room: &mut [u8], at: usize, n: u16) -> usize
     requires { ⌜ at + length (decimal n) ≤ length (now room) ⌝ }
     ensures { λ r. ⌜ (r ≡ at + length (decimal n))
         × (now (room .exit) ≡ written at (decimal n) (now (room .entry))) ⌝ }
@@ -57,4 +37,17 @@ pub fn put_decimal(room: &mut [u8], at: usize, n: u16) -> usize
     let third = put_digit(room, second, n, 100);
     let fourth = put_digit(room, third, n, 10);
     put(room, fourth, b'0' + (n % 10) as u8)
+}
+
+// Writes a number in decimal into a room from a place on, and answers the place
+// behind it. Most numbers of a listing have one digit.
+pub fn put_decimal(room: &mut [u8], at: usize, n: u16) -> usize
+    requires { ⌜ at + length (decimal n) ≤ length (now room) ⌝ }
+    ensures { λ r. ⌜ (r ≡ at + length (decimal n))
+        × (now (room .exit) ≡ written at (decimal n) (now (room .entry))) ⌝ }
+{
+    if n < 10 {
+        return put(room, at, b'0' + n as u8);
+    }
+    put_digits(room, at, n)
 }

@@ -1,6 +1,6 @@
 -- Only a label takes no room.
 use borrow.Author.Needs.{needs}
-use Rattle.assembler.proofs.Walk.{count-label, count-other}
+use Rattle.assembler.proofs.Rowwise.{count-label, count-other}
 use Rattle.assembler.proofs.definitions.next_number.Statement.{statement}
 use Rattle.assembler.proofs.definitions.next_number.Tie as tie
 

@@ -1,4 +1,4 @@
--- Only a halfword changes the output and the number.
+-- Only a halfword changes the output.
 use borrow.Author.Needs.{needs}
 use Rattle.assembler.proofs.Sayings.{emitted}
 use Rattle.assembler.proofs.translator.emit.Statement.{statement}
@@ -12,5 +12,5 @@ returns-2 c =
 
 pub emit-spec : {M : Type 1} → statement M
 emit-spec = tie.close (tie.spec
-    (search needs) (search needs) (search needs) (search needs) (search needs)
+    (search needs) (search needs) (search needs) (search needs)
     (λ c. search needs) (search needs) returns-2 (λ c. search needs))

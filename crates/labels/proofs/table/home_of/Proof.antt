@@ -10,4 +10,4 @@ unfolding home
 returns c = refl
 
 pub home-of-spec : {M : Type 1} → statement M
-home-of-spec = tie.close (tie.spec (search needs) returns)
+home-of-spec = tie.close (tie.spec (search needs) (search needs) returns)

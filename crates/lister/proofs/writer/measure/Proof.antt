@@ -10,10 +10,10 @@ use Rattle.lister.proofs.writer.measure.Statement.{statement}
 use Rattle.lister.proofs.writer.measure.Tie as tie
 
 abbrev Inv-loop : tie.InvT-loop
-Inv-loop table code marks n₀ k₀ n k = (k ≤ length code) × (n ≡ length (listingBelow code k))
+Inv-loop code marks n₀ k₀ n k = (k ≤ length code) × (n ≡ length (listingBelow code k))
 
 abbrev μ-loop : tie.MeasureT-loop
-μ-loop table code marks n₀ k₀ n k = length code - k
+μ-loop code marks n₀ k₀ n k = length code - k
 
 loop-holds : tie.Need-loop-holds Inv-loop μ-loop
 unfolding listingBelow
@@ -23,7 +23,7 @@ lines-length-requires : tie.Need-lines-length-requires Inv-loop μ-loop
 lines-length-requires c κs =
     let turn : tie.In-loop Inv-loop μ-loop = search in
     let start : tie.Start Inv-loop μ-loop = search in
-    (start .pre .0, number-small _ _ (start .pre .1) _ (turn .loop-test .taken))
+    number-small _ _ (start .pre) _ (turn .loop-test .taken)
 
 add-n : tie.Need-add-n Inv-loop μ-loop
 add-n c =
@@ -32,7 +32,7 @@ add-n c =
     let start : tie.Start Inv-loop μ-loop = search in
     omega (
       arith,
-      measured-small _ _ (start .pre .1) _ (turn .loop-test .taken) _ _ (head .loop .inv .1)
+      measured-small _ _ (start .pre) _ (turn .loop-test .taken) _ _ (head .loop .inv .1)
           (c .lines-length .ensures),
     )
 
@@ -42,7 +42,7 @@ loop-again c =
     let head = turn .before in
     let start : tie.Start Inv-loop μ-loop = search in (
       search needs,
-      measured-more _ _ (start .pre .1) _ (turn .loop-test .taken) _ _ (head .loop .inv .1) (c .lines-length .ensures),
+      measured-more _ _ (start .pre) _ (turn .loop-test .taken) _ _ (head .loop .inv .1) (c .lines-length .ensures),
     )
 
 returns : tie.Need-returns Inv-loop μ-loop

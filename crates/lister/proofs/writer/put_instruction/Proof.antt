@@ -1,46 +1,48 @@
--- The line of a halfword is that of its form; an undefined one has none.
+-- The name's characters, and the operands behind them; a halfword with no name has no line.
 use mathlib.Core.Path.{ap}
 use borrow.Author.Needs.{needs}
 use native.Mathlib.Omega.{arith}
 use lib.ListN.{length}
-use Rattle.text.proofs.Writing.{wrote, wrote-none, wrote-length}
-use Rattle.lister.proofs.Items.{instruction-row, instruction-is, no-instruction}
-use Rattle.lister.proofs.Listing.{wrote-as}
+use Rattle.text.proofs.Writing.{wrote, wrote-as, wrote-none, _then_}
+use Rattle.lister.proofs.Lines.{undefined-line, defined-line}
 use Rattle.lister.proofs.writer.put_instruction.Statement.{statement}
 use Rattle.lister.proofs.writer.put_instruction.Tie as tie
 
-put-line-requires : tie.Need-put-line-requires
-put-line-requires c κs =
-    let formed : tie.After-form-of = search in
-    let told : tie.After-i = search in
-    let decoded : tie.After-decode = search in
-    let start : tie.Start = search in
-    let a = start .args .a in
-    let is = formed .form-of .ensures in
-    let line = ap length (instruction-is a (decoded .decode .ensures) (told .i .given .1) is) in
-    ((start .pre .0, instruction-row a (told .i .given .1) is), omega arith)
-
-same-length : tie.Need-same-length
-same-length c =
-    let put : tie.After-put-line = search in
-    wrote-length (wrote (put .put-line .ensures))
-
 returns : tie.Need-returns
 returns c =
-    let put : tie.After-put-line = search in
-    let formed : tie.After-form-of = search in
-    let told : tie.After-i = search in
-    let decoded : tie.After-decode = search in
-    let line = instruction-is _ (decoded .decode .ensures) (told .i .given .1) (formed .form-of .ensures) in
-    let w = wrote-as line (wrote (put .put-line .ensures)) in
+    let named : tie.After-name-of = search in
+    let start : tie.Start = search in
+    let w = wrote-none _ _ _ (undefined-line (start .args .a) (start .args .h) (named .name-of .ensures) (search)) in
     (w .place, w .room)
+
+put-four-requires : tie.Need-put-four-requires
+put-four-requires c κs =
+    let named : tie.After-name-of = search in
+    let start : tie.Start = search in
+    omega (
+      arith,
+      ap length (defined-line (start .args .a) (start .args .h) (named .name-of .ensures) (search)),
+    )
+
+put-operands-requires : tie.Need-put-operands-requires
+put-operands-requires c κs =
+    let named : tie.After-name-of = search in
+    let start : tie.Start = search in
+    omega (
+      arith,
+      ap length (defined-line (start .args .a) (start .args .h) (named .name-of .ensures) (search)),
+    )
 
 returns-2 : tie.Need-returns-2
 returns-2 c =
-    let decoded : tie.After-decode = search in
-    let w = wrote-none _ _ _ (no-instruction _ (decoded .decode .ensures) (c .enum-told .given .1)) in
+    let two : tie.After-put-operands = search in
+    let one : tie.After-put-four = search in
+    let named : tie.After-name-of = search in
+    let start : tie.Start = search in
+    let w = wrote-as (defined-line (start .args .a) (start .args .h) (named .name-of .ensures) (search))
+    (wrote (one .put-four .ensures) then wrote (two .put-operands .ensures)) in
     (w .place, w .room)
 
 pub put-instruction-spec : {M : Type 1} → statement M
 put-instruction-spec = tie.close (tie.spec
-    (search needs) (search needs) (search needs) put-line-requires (search needs) same-length returns returns-2)
+    (search needs) returns put-four-requires put-operands-requires (search needs) returns-2)

@@ -1,12 +1,13 @@
 -- The line is written behind the label, and both are those that the mark and the address say.
+use mathlib.Core.Path.{sym}
 use borrow.Author.Needs.{needs}
 use Prim.Native.Nat.{_+_, _≤_}
 use native.Mathlib.Omega.{arith}
 use lib.ListN.{length}
 use Rattle.isa.specs.Decode.{decodeOf}
-use Rattle.text.proofs.Writing.{wrote, wrote-more, wrote-length}
+use Rattle.text.proofs.Writing.{wrote, wrote-as, _then_}
 use Rattle.lister.specs.List.{labelLine, instructionLine}
-use Rattle.lister.proofs.Listing.{lines-inside, lines-told, wrote-as}
+use Rattle.lister.proofs.Listing.{lines-inside, lines-told}
 use Rattle.lister.proofs.writer.put_lines.Statement.{statement}
 use Rattle.lister.proofs.writer.put_lines.Tie as tie
 
@@ -28,37 +29,27 @@ inside asked =
 put-label-requires : tie.Need-put-label-requires
 put-label-requires c κs =
     let asked : tie.After-is-marked = search in
-    let start : tie.Start = search in
-    (start .pre .0 .0, omega (arith, inside asked))
+    omega (arith, inside asked)
 
 put-instruction-requires : tie.Need-put-instruction-requires
 put-instruction-requires c κs =
-    let put : tie.After-put-label = search in
     let asked : tie.After-is-marked = search in
-    let start : tie.Start = search in
-    let label = wrote (put .put-label .ensures) in
-    (start .pre .0 .0, omega (arith, inside asked, label .place, wrote-length label))
-
-same-length : tie.Need-same-length
-same-length c =
-    let line : tie.After-put-instruction = search in
-    let put : tie.After-put-label = search in
-    wrote-length (wrote-more (wrote (put .put-label .ensures)) (wrote (line .put-instruction .ensures)))
+    omega (arith, inside asked)
 
 returns : tie.Need-returns
 returns c =
     let line : tie.After-put-instruction = search in
     let put : tie.After-put-label = search in
     let asked : tie.After-is-marked = search in
-    let both = wrote-more (wrote (put .put-label .ensures)) (wrote (line .put-instruction .ensures)) in
+    let both = wrote (put .put-label .ensures) then wrote (line .put-instruction .ensures) in
     let addressed = asked .before in
     let start = start-of asked .args in
     let told =
     lines-told (start .marks .now) (start .i) _ (addressed .byte-address .ensures) _ (asked .is-marked .ensures)
     (decodeOf (start .h)) in
-    let w = wrote-as told both in
+    let w = wrote-as (sym told) both in
     (w .place, w .room)
 
 pub put-lines-spec : {M : Type 1} → statement M
 put-lines-spec = tie.close (tie.spec
-    (search needs) (search needs) put-label-requires put-instruction-requires same-length returns)
+    (search needs) (search needs) put-label-requires put-instruction-requires (search needs) returns)

@@ -12,11 +12,11 @@ use Rattle.lister.proofs.writer.write.Statement.{statement}
 use Rattle.lister.proofs.writer.write.Tie as tie
 
 abbrev Inv-loop : tie.InvT-loop
-Inv-loop table code marks out₀ at₀ k₀ out at k =
+Inv-loop out₀ code marks at₀ k₀ out at k =
     (k ≤ length code) × (at ≡ length (listingBelow code k)) × (out ≡ written 0 (listingBelow code k) out₀)
 
 abbrev μ-loop : tie.MeasureT-loop
-μ-loop table code marks out₀ at₀ k₀ out at k = length code - k
+μ-loop out₀ code marks at₀ k₀ out at k = length code - k
 
 loop-holds : tie.Need-loop-holds Inv-loop μ-loop
 unfolding listingBelow written
@@ -27,9 +27,9 @@ put-lines-requires c κs =
     let turn : tie.In-loop Inv-loop μ-loop = search in
     let at = turn .before .loop in
     let start : tie.Start Inv-loop μ-loop = search in
-    let marks = start .pre .1 .0 in (
-      (start .pre .0, number-small _ _ marks _ (turn .loop-test .taken)),
-      lines-fit _ _ marks _ (turn .loop-test .taken) _ (start .pre .1 .1) _ _ (at .inv .1) (at .inv .2),
+    let marks = start .pre .0 in (
+      number-small _ _ marks _ (turn .loop-test .taken),
+      lines-fit _ _ marks _ (turn .loop-test .taken) _ (start .pre .1) _ _ (at .inv .1) (at .inv .2),
     )
 
 loop-again : tie.Need-loop-again Inv-loop μ-loop
@@ -38,8 +38,8 @@ loop-again c =
     let turn : tie.In-loop Inv-loop μ-loop = search in
     let at = turn .before .loop in
     let start : tie.Start Inv-loop μ-loop = search in
-    let marks = start .pre .1 .0 in
-    let room = start .pre .1 .1 in
+    let marks = start .pre .0 in
+    let room = start .pre .1 in
     let next =
     written-next _ _ marks _ (turn .loop-test .taken) _ room _ _ (at .inv .1) (at .inv .2) _ _
     (put .put-lines .ensures) in
@@ -55,7 +55,7 @@ returns c =
     let head : tie.At-loop Inv-loop μ-loop = search in
     let start : tie.Start Inv-loop μ-loop = search in
     let all : head .loop .k ≡ length (start .args .code .now) = omega arith in
-    rw all at (head .loop .inv .2)
+    (rw all at (head .loop .inv .1), rw all at (head .loop .inv .2))
 
 pub write-spec : {M : Type 1} → statement M
 write-spec = tie.close (tie.spec

@@ -1,6 +1,6 @@
 -- Each arm has the letters of its condition; what is left has none of them.
 use Rattle.syntax.specs.Slots.{lettersValue}
-use Rattle.syntax.proofs.Naming.{letters-none}
+use Rattle.syntax.proofs.Conditions.{letters-none}
 use Rattle.syntax.proofs.slots.condition_number.Statement.{statement}
 use Rattle.syntax.proofs.slots.condition_number.Tie as tie
 

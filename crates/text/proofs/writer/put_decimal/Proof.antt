@@ -1,88 +1,24 @@
--- The digits are written one behind the other, the highest first.
+-- A number below 10 is its last digit.
+use mathlib.Core.Path.{ap}
 use borrow.Author.Needs.{needs}
 use native.Mathlib.Omega.{arith}
-use Rattle.text.proofs.Writing.{wrote, decimal-sum, wrote-more, wrote-length}
+use lib.ListN.{length}
+use Rattle.text.proofs.Writing.{wrote, one-digit, digit-written}
 use Rattle.text.proofs.writer.put_decimal.Statement.{statement}
 use Rattle.text.proofs.writer.put_decimal.Tie as tie
-
-put-digit-requires : tie.Need-put-digit-requires
-put-digit-requires c κs =
-    let start : tie.Start = search in
-    (omega (arith, decimal-sum (start .args .n), start .pre), search needs)
-
-put-digit-requires-2 : tie.Need-put-digit-requires-2
-put-digit-requires-2 c κs =
-    let start : tie.Start = search in
-    let one : tie.After-put-digit = search in
-    let w = wrote (one .put-digit .ensures) in
-    (omega (arith, decimal-sum (start .args .n), start .pre, w .place, wrote-length w), search needs)
-
-put-digit-requires-3 : tie.Need-put-digit-requires-3
-put-digit-requires-3 c κs =
-    let start : tie.Start = search in
-    let two : tie.After-put-digit2 = search in
-    let one : tie.After-put-digit = search in
-    let w = wrote (one .put-digit .ensures) in
-    let v = wrote (two .put-digit2 .ensures) in (
-      omega (arith, decimal-sum (start .args .n), start .pre, w .place, v .place, wrote-length w, wrote-length v),
-      search needs,
-    )
-
-put-digit-requires-4 : tie.Need-put-digit-requires-4
-put-digit-requires-4 c κs =
-    let start : tie.Start = search in
-    let three : tie.After-put-digit3 = search in
-    let two : tie.After-put-digit2 = search in
-    let one : tie.After-put-digit = search in
-    let w = wrote-more (wrote-more (wrote (one .put-digit .ensures)) (wrote (two .put-digit2 .ensures)))
-    (wrote (three .put-digit3 .ensures)) in (
-      omega (
-        arith,
-        decimal-sum (start .args .n),
-        start .pre,
-        one .put-digit .ensures,
-        two .put-digit2 .ensures,
-        three .put-digit3 .ensures,
-        wrote-length w,
-      ),
-      search needs,
-    )
 
 put-requires : tie.Need-put-requires
 put-requires c κs =
     let start : tie.Start = search in
-    let four : tie.After-put-digit4 = search in
-    let three : tie.After-put-digit3 = search in
-    let two : tie.After-put-digit2 = search in
-    let one : tie.After-put-digit = search in
-    let w = wrote-more (wrote-more (wrote-more (wrote (one .put-digit .ensures)) (wrote (two .put-digit2 .ensures)))
-    (wrote (three .put-digit3 .ensures))) (wrote (four .put-digit4 .ensures)) in
-    omega (
-      arith,
-      decimal-sum (start .args .n),
-      start .pre,
-      one .put-digit .ensures,
-      two .put-digit2 .ensures,
-      three .put-digit3 .ensures,
-      four .put-digit4 .ensures,
-      wrote-length w,
-    )
+    omega (arith, ap length (one-digit (start .args .n) (omega arith)))
 
 returns : tie.Need-returns
 returns c =
-    let five : tie.After-put = search in
-    let four : tie.After-put-digit4 = search in
-    let three : tie.After-put-digit3 = search in
-    let two : tie.After-put-digit2 = search in
-    let one : tie.After-put-digit = search in
-    let w = wrote-more (wrote-more (wrote-more (wrote-more (wrote (one .put-digit .ensures))
-    (wrote (two .put-digit2 .ensures))) (wrote (three .put-digit3 .ensures))) (wrote (four .put-digit4 .ensures)))
-    (wrote (five .put .ensures)) in
+    let put : tie.After-put = search in
+    let start : tie.Start = search in
+    let w = digit-written (start .args .n) (omega arith) (wrote (put .put .ensures)) in
     (w .place, w .room)
 
 pub put-decimal-spec : {M : Type 1} → statement M
-put-decimal-spec =
-    tie.close
-    (tie.spec
-    put-digit-requires put-digit-requires-2 put-digit-requires-3 put-digit-requires-4 (search needs) (search needs)
-    put-requires (search needs) returns)
+put-decimal-spec = tie.close (tie.spec
+    (search needs) (search needs) put-requires (search needs) returns (search needs) (search needs) (λ c. search needs))
