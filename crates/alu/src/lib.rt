@@ -1,5 +1,7 @@
 // What instructions work out: results, the flags that speak of them, and the
 // conditions of branches.
+#![tactic(auto)]
+
 mod conditions;
 mod control;
 mod results;

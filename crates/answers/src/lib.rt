@@ -1,5 +1,7 @@
 // What the firmware's parts answer, as plain numbers, as the C face gives them
 // out.
+#![tactic(auto)]
+
 mod answers;
 mod instructions;
 

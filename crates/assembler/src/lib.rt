@@ -1,4 +1,6 @@
 // The assembler: the code of a text.
+#![tactic(auto)]
+
 mod assembler;
 mod columns;
 mod definitions;

@@ -1,5 +1,7 @@
 // Prints the rows of the bench table that no theorem holds, and the two totals,
 // each computed by the proved functions. The manual's date comes first.
+#![tactic(auto)]
+
 mod console;
 mod counts;
 mod rows;

@@ -4,6 +4,8 @@
 // in words what the check asks and what it found. The budget of the run is the
 // argument, 1,000,000 steps if there is none. A read or a write that fails is told
 // on standard error.
+#![tactic(auto)]
+
 mod argument;
 mod console;
 mod places;

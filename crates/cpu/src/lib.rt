@@ -1,5 +1,7 @@
 // The PAW processor: its machine, and what each instruction does to it. Memory is
 // the caller's, 65,536 bytes; code may read, write and execute any of them.
+#![tactic(auto)]
+
 mod executor;
 mod held;
 mod instructions;

@@ -3,3 +3,5 @@
 // the rule makes of that (specs/Sound.antt; what lies in a value is
 // specs/Holds.antt). And they keep bounds in order (specs/Ordered.antt,
 // proofs/Ordered.antt).
+
+#![tactic(auto)]

@@ -1,5 +1,7 @@
 // The format of an image: its numbers, the check of a file, and the code that an
 // accepted file holds.
+#![tactic(auto)]
+
 mod answer;
 mod block;
 mod checker;

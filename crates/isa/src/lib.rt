@@ -1,4 +1,6 @@
 // The PAW instruction set: instructions and their halfwords.
+#![tactic(auto)]
+
 mod decoder;
 mod encoder;
 mod instruction;

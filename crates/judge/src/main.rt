@@ -2,6 +2,8 @@
 // bytes and the window's start and length, or `refused` with the number of the
 // first check that failed and its place. A read or a write that fails is told on
 // standard error; after a read that fails nothing is judged.
+#![tactic(auto)]
+
 use libc::{STDIN_FILENO, STDOUT_FILENO};
 
 // One byte more than the longest image, so that a longer file is seen to be

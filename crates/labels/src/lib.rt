@@ -1,4 +1,6 @@
 // A table of labels: first definitions by name.
+#![tactic(auto)]
+
 mod table;
 
 pub use table::{Labelled, Probed, define, lookup};

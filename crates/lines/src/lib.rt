@@ -1,4 +1,6 @@
 // The lines that the programs write for a verdict, as bytes.
+#![tactic(auto)]
+
 mod verdicts;
 mod writer;
 

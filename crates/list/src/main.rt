@@ -1,6 +1,8 @@
 // Writes the code of an image on standard input as an assembler text to standard
 // output. What is wrong with the image or its code is told on standard error, and
 // then standard output stays empty.
+#![tactic(auto)]
+
 mod code;
 mod complaints;
 

@@ -1,5 +1,7 @@
 // The lister: writes a code as an assembler text, with a label before every
 // branch target.
+#![tactic(auto)]
+
 mod checker;
 mod letters;
 mod lister;

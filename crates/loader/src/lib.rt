@@ -1,4 +1,6 @@
 // The loader: puts a fit program into memory.
+#![tactic(auto)]
+
 mod copy;
 mod loader;
 

@@ -3,6 +3,8 @@
 // l, where the window starts and how long it is, in bytes.
 // The image goes to standard output. Whatever is wrong is told on standard
 // error, and then standard output stays empty.
+#![tactic(auto)]
+
 mod arguments;
 mod complaints;
 mod console;

@@ -2,6 +2,8 @@
 // can link, with answers in plain numbers. include/ and rust/paw say how each
 // answer is taken apart; specs/ here and in `answers`, `endings` and `words`
 // gives every number its meaning.
+#![tactic(auto)]
+
 mod date;
 mod images;
 mod instructions;

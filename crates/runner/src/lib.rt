@@ -1,4 +1,6 @@
 // A run of the PAW processor: steps until a budget is spent.
+#![tactic(auto)]
+
 mod lent;
 mod notes;
 mod runs;

@@ -1,4 +1,6 @@
 // Texts as bytes: kinds of characters, where lines end, and writing into a room.
+#![tactic(auto)]
+
 mod characters;
 mod scanner;
 mod writer;

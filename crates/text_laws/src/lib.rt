@@ -2,3 +2,5 @@
 // exactly as its patterns say; a listing assembles to the code that it lists; each
 // refusal of the assembler has its own sentence. Examples stand in
 // specs/Examples.antt, each of them computed.
+
+#![tactic(auto)]

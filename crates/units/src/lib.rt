@@ -1,5 +1,7 @@
 // What the machine is counted in: bytes and instructions, each with an address or
 // a number of its own, and halfwords, with their bytes and their fields.
+#![tactic(auto)]
+
 mod address;
 mod bytes;
 mod fields;

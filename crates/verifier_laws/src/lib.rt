@@ -4,3 +4,5 @@
 // refused by the first no. An instruction is a branch target exactly when a branch
 // goes to it, and only there and at address 0 is what was known forgotten. The
 // bounds of every value are in order.
+
+#![tactic(auto)]
