@@ -1,5 +1,5 @@
 -- The table of labels: two columns of one length, names and numbers. 0 is no name.
-use Rattle.std.specs.Prelude.{Bool, cond, List, ℕ, zero, suc, ◌+◌, ◌*◌, ◌/◌, ◌%◌, eqb, length, get_or, set}
+use Rattle.std.specs.Prelude.{cond, List, ℕ, zero, suc, ◌+◌, ◌*◌, ◌/◌, ◌%◌, eqb, length, get_or, set}
 use Rattle.labels.specs.declared.table.Probed.{Probed}
 use Rattle.labels.specs.declared.table.Probed.TheVariants.{Here, Free, Crowded}
 use Rattle.labels.specs.declared.table.Labelled.{Labelled}
