@@ -11,7 +11,7 @@ use text::{byte_at, is_small};
 
 // The values of a line's slots in their order, at most three; 0 where there are
 // fewer.
-#[derive(Drop)]
+#[derive(Clone, Copy)]
 pub struct Values {
     pub a: u64,
     pub b: u64,
@@ -19,7 +19,7 @@ pub struct Values {
 }
 
 // What a line says: its row, and the values of its slots.
-#[derive(Drop)]
+#[derive(Clone, Copy)]
 pub struct Item {
     pub row: usize,
     pub values: Values,
