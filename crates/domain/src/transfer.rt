@@ -42,6 +42,7 @@ fn saturating_add(a: u16, b: u16) -> u16
 // ADD: the bounds are added, unless the sum of the upper ones is no 16-bit
 // number; then the register may have wrapped to anything. A low bit is 0 if it
 // is 0 in both.
+#[tactic(auto, unfolding(crate::specs::Value::add_of))]
 pub fn add(a: Value, b: Value) -> Value
     ensures { result ≡ add_of a b }
 {
@@ -54,6 +55,7 @@ pub fn add(a: Value, b: Value) -> Value
 }
 
 // AND: no more than either operand. A low bit is 0 if it is 0 in one of them.
+#[tactic(auto, unfolding(crate::specs::Value::and_of))]
 pub fn and(a: Value, b: Value) -> Value
     ensures { result ≡ and_of a b }
 {
@@ -69,6 +71,7 @@ fn ones(x: u16) -> u16
 }
 
 // EOR: no longer than the longer operand. A low bit is 0 if it is 0 in both.
+#[tactic(auto, unfolding(crate::specs::Value::eor_of))]
 pub fn eor(a: Value, b: Value) -> Value
     ensures { result ≡ eor_of a b }
 {
@@ -77,6 +80,7 @@ pub fn eor(a: Value, b: Value) -> Value
 
 // ASR: a number without its top bit gets no larger; one with it may become
 // anything. The shift moves any bit to the lowest place.
+#[tactic(auto, unfolding(crate::specs::Value::asr_of))]
 pub fn asr(a: Value) -> Value
     ensures { result ≡ asr_of a }
 {

@@ -17,6 +17,7 @@ pub struct Value {
 // The value of the three numbers that a rule gives. Every rule goes through
 // here, because a register that can only be one number has that number's
 // trailing zeros, whatever the rule's own count is.
+#[tactic(auto, unfolding(crate::specs::Value::interval_of))]
 pub(crate) fn interval(low: u16, high: u16, zeros: u8) -> Value
     ensures { result ≡ interval_of low high zeros }
 {
