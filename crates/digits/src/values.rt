@@ -9,6 +9,7 @@ pub const NO_DIGIT: u8 = 16;
 pub const LARGEST: u32 = 65535;
 
 // The value of a hexadecimal digit, of either case.
+#[tactic(auto, unfolding(crate::specs::Digits::digit_of))]
 pub fn digit_of(b: u8) -> u8
     ensures { result ≡ digit_of b }
 {
@@ -21,6 +22,7 @@ pub fn digit_of(b: u8) -> u8
 }
 
 // The last hexadecimal digit of a halfword, in capitals.
+#[tactic(auto, unfolding(crate::specs::Digits::last_digit))]
 pub fn last_digit(h: u16) -> u8
     ensures { result ≡ last_digit h }
 {
@@ -36,6 +38,7 @@ pub fn with_digit(h: u16, d: u8) -> u16
 }
 
 // A number with one digit more; past the largest halfword it stays past it.
+#[tactic(auto, unfolding(crate::specs::Digits::grown_by))]
 pub fn grow(hex: bool, n: u32, d: u8) -> u32
     ensures { result ≡ grown_by hex n d }
 {
