@@ -1,29 +1,28 @@
 // Words and numbers on standard output.
-use libc::STDOUT_FILENO;
 use verifier::Verdict;
 
-pub(crate) fn print(text: &[u8]) {
-    io::write_all(STDOUT_FILENO, text);
+pub(crate) fn print(rt: &impl Print, text: &[u8]) {
+    let _ = rt.write_all(text);
 }
 
-pub(crate) fn print_number(n: u64) {
-    io::print_decimal(STDOUT_FILENO, n);
+pub(crate) fn print_number(rt: &impl Print, n: u64) {
+    let _ = rt.print(n);
 }
 
-pub(crate) fn print_flag(name: &[u8], set: bool) {
-    print(b" ");
-    print(name);
+pub(crate) fn print_flag(rt: &impl Print, name: &[u8], set: bool) {
+    print(rt, b" ");
+    print(rt, name);
     if set {
-        print(b"1");
+        print(rt, b"1");
     } else {
-        print(b"0");
+        print(rt, b"0");
     }
 }
 
 // The line of a verdict.
-pub(crate) fn print_verdict(v: Verdict) {
+pub(crate) fn print_verdict(rt: &impl Print, v: Verdict) {
     let line = lines::verdict_line(v);
     let bytes = line.bytes;
     let n = line.length;
-    print(&bytes[..n]);
+    print(rt, &bytes[..n]);
 }

@@ -43,12 +43,12 @@ fn count_all() -> Totals {
     Totals { defined, fit }
 }
 
-pub(crate) fn print_totals() {
+pub(crate) fn print_totals(rt: &impl Print) {
     let totals = count_all();
-    print(b"defined halfwords: ");
-    print_number(totals.defined);
-    print(b"\n");
-    print(b"fit codes of two instructions, the second 0x0000: ");
-    print_number(totals.fit);
-    print(b"\n");
+    print(rt, b"defined halfwords: ");
+    print_number(rt, totals.defined);
+    print(rt, b"\n");
+    print(rt, b"fit codes of two instructions, the second 0x0000: ");
+    print_number(rt, totals.fit);
+    print(rt, b"\n");
 }

@@ -6,10 +6,10 @@ mod console;
 mod counts;
 mod rows;
 
-fn main() {
-    console::print(&isa::MANUAL_DATE);
-    console::print(b"\n");
-    rows::print_shift();
-    rows::print_verdicts();
-    counts::print_totals();
+fn main(rt: HostRuntime) {
+    console::print(&rt, &isa::MANUAL_DATE);
+    console::print(&rt, b"\n");
+    rows::print_shift(&rt);
+    rows::print_verdicts(&rt);
+    counts::print_totals(&rt);
 }

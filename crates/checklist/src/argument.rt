@@ -1,5 +1,7 @@
 // The budget of the run, as the program's argument gives it.
 use super::console::complain;
+use std::env::FillError;
+use std::rt::Env;
 
 // A budget, or why there is none.
 #[derive(Drop)]
@@ -53,30 +55,40 @@ fn parse(text: &[u8]) -> Budget {
     steps(n)
 }
 
+// Whether there is an argument `i`.
+fn is_given(rt: &impl Env, i: usize) -> bool {
+    let mut start = [0u8; 1];
+    match rt.arg(i, &mut start) {
+        Err(FillError::NotPresent) => false,
+        _ => true,
+    }
+}
+
 // The budget that the program was started with.
-pub(crate) fn read_budget() -> Budget {
-    let count = os::arg_count();
-    if count < 2 {
+pub(crate) fn read_budget(rt: &impl Env) -> Budget {
+    if !is_given(rt, 1) {
         return Budget::Steps(DEFAULT);
     }
-    if count > 2 {
+    if is_given(rt, 2) {
         return Budget::TooMany;
     }
-    let mut text = io::buffer();
-    let n = os::arg(1, &mut text);
-    if os::errno() != 0 {
-        return Budget::TooLong;
+    let mut text = [0u8; 4096];
+    match rt.arg(1, &mut text) {
+        Ok(n) => parse(&text[..n]),
+        Err(_) => Budget::TooLong,
     }
-    parse(&text[..n])
 }
 
 // Says why there is no budget.
-pub(crate) fn refuse(budget: Budget) {
+pub(crate) fn refuse(rt: &impl Eprint, budget: Budget) {
     match budget {
         Budget::Steps(_) => (),
-        Budget::NotANumber => complain(b"checklist: the budget is not a number in decimal\n"),
-        Budget::TooLarge => complain(b"checklist: the budget is above 4294967295\n"),
-        Budget::TooLong => complain(b"checklist: the budget is longer than 4096 characters\n"),
-        Budget::TooMany => complain(b"checklist: too many arguments: there is one, the budget\n"),
+        Budget::NotANumber => complain(rt, "checklist: the budget is not a number in decimal"),
+        Budget::TooLarge => complain(rt, "checklist: the budget is above 4294967295"),
+        Budget::TooLong => complain(rt, "checklist: the budget is longer than 4096 characters"),
+        Budget::TooMany => complain(
+            rt,
+            "checklist: too many arguments: there is one, the budget",
+        ),
     }
 }

@@ -1,19 +1,19 @@
 // Words and numbers on standard output, and complaints on standard error. What
 // writes to standard output answers whether that went well.
 use digits::last_digit;
-use libc::{STDERR_FILENO, STDOUT_FILENO};
+use std::io;
 use verifier::Verdict;
 
-pub(crate) fn print(text: &[u8]) -> bool {
-    io::write_all(STDOUT_FILENO, text)
+pub(crate) fn print(rt: &impl Print, text: &[u8]) -> io::Result<()> {
+    rt.write_all(text)
 }
 
-pub(crate) fn print_number(n: u64) -> bool {
-    io::print_decimal(STDOUT_FILENO, n)
+pub(crate) fn print_number(rt: &impl Print, n: u64) -> io::Result<()> {
+    rt.print(n)
 }
 
 // A halfword in hexadecimal.
-pub(crate) fn print_halfword(h: u16) -> bool {
+pub(crate) fn print_halfword(rt: &impl Print, h: u16) -> io::Result<()> {
     let text = [
         b'0',
         b'x',
@@ -22,18 +22,18 @@ pub(crate) fn print_halfword(h: u16) -> bool {
         last_digit(h / 16),
         last_digit(h),
     ];
-    print(&text)
+    print(rt, &text)
 }
 
 // The line of a verdict.
-pub(crate) fn print_verdict(v: Verdict) -> bool {
+pub(crate) fn print_verdict(rt: &impl Print, v: Verdict) -> io::Result<()> {
     let line = lines::verdict_line(v);
     let bytes = line.bytes;
     let n = line.length;
-    print(&bytes[..n])
+    print(rt, &bytes[..n])
 }
 
 // A line for standard error.
-pub(crate) fn complain(text: &[u8]) {
-    io::write_all(STDERR_FILENO, text);
+pub(crate) fn complain(rt: &impl Eprint, text: &str) {
+    let _ = rt.eprintln(text);
 }

@@ -13,38 +13,28 @@ mod report;
 mod words;
 
 use argument::Budget;
-use libc::STDIN_FILENO;
 
 // One byte more than the longest image, so that a longer file is seen to be
 // longer and no more of it is read.
 const MOST: usize = image::MOST_BYTES + 1;
 
-// Whether the input has ended: after a read that failed, the next one fails
-// too or finds more.
-fn has_ended() -> bool {
-    let mut next = [0u8; 1];
-    libc::read(STDIN_FILENO, &mut next) == 0
-}
-
-fn go_through(budget: u32) {
+fn go_through(rt: &(impl Input + Print + Eprint + AllocGlobal), budget: u32) {
     let mut buffer = [0u8; MOST];
-    let n = io::read_full(STDIN_FILENO, &mut buffer);
-    if n < MOST {
-        if !has_ended() {
-            os::fail(b"checklist: standard input");
-            return;
+    match streams::read_full(rt, &mut buffer) {
+        Ok(n) => {
+            if let Err(error) = report::print_lines(rt, &buffer[..n], budget) {
+                streams::say_failure(rt, "checklist: standard output", error);
+            }
         }
-    }
-    if !report::print_lines(&buffer[..n], budget) {
-        os::fail(b"checklist: standard output");
+        Err(error) => streams::say_failure(rt, "checklist: standard input", error),
     }
 }
 
-fn main() {
-    let budget = argument::read_budget();
+fn main(rt: HostRuntime) {
+    let budget = argument::read_budget(&rt);
     if let Budget::Steps(n) = budget {
-        go_through(n);
+        go_through(&rt, n);
     } else {
-        argument::refuse(budget);
+        argument::refuse(&rt, budget);
     }
 }

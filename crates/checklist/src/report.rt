@@ -12,6 +12,7 @@ use loader::Loaded;
 use reader::Given;
 use refusals::Refusal;
 use runner::RunOutcome;
+use std::io;
 use verifier::Verdict;
 
 // A machine as it starts: all registers, flags and the note 0.
@@ -42,86 +43,97 @@ fn count_blocks(file: &[u8], checked: Checked) -> u64
 }
 
 // The line of a refusal, what its check asks, and what stands at its place.
-fn print_refusal(file: &[u8], r: Refusal) -> bool {
+fn print_refusal(rt: &impl Print, file: &[u8], r: Refusal) -> io::Result<()> {
+    let number = r.number;
     let place = r.place;
-    print_verdict(Verdict::Refused(r))
-        && print_check(r.number)
-        && print_place(file, r.number, place)
+    print_verdict(rt, Verdict::Refused(r))?;
+    print_check(rt, number)?;
+    print_place(rt, file, number, place)
 }
 
-fn print_ending(outcome: RunOutcome) -> bool {
+fn print_ending(rt: &impl Print, outcome: RunOutcome) -> io::Result<()> {
     match outcome {
-        RunOutcome::Spent => print(b"spent "),
-        RunOutcome::Halted => print(b"halt "),
+        RunOutcome::Spent => print(rt, b"spent "),
+        RunOutcome::Halted => print(rt, b"halt "),
         RunOutcome::Stopped(number) => {
-            print(b"stop ") && print_number(number as u64) && print(b" after ")
+            print(rt, b"stop ")?;
+            print_number(rt, number as u64)?;
+            print(rt, b" after ")
         }
         RunOutcome::Refused(r) => {
-            print(b"refused ") && print_number(r.number as u64) && print(b" after ")
+            print(rt, b"refused ")?;
+            print_number(rt, r.number as u64)?;
+            print(rt, b" after ")
         }
     }
 }
 
 // The note, which is 0 at the start, so another one is HALT's. HALT with note 0
 // gives no reason, and none is printed.
-fn print_note(note: u8) -> bool {
+fn print_note(rt: &impl Print, note: u8) -> io::Result<()> {
     if note == 0 {
-        true
+        Ok(())
     } else {
-        print(b" note ") && print_number(note as u64)
+        print(rt, b" note ")?;
+        print_number(rt, note as u64)
     }
 }
 
-fn print_ran(outcome: RunOutcome, count: u32, note: u8) -> bool {
-    print_ending(outcome) && print_number(count as u64) && print_note(note) && print(b"\n")
+fn print_ran(rt: &impl Print, outcome: RunOutcome, count: u32, note: u8) -> io::Result<()> {
+    print_ending(rt, outcome)?;
+    print_number(rt, count as u64)?;
+    print_note(rt, note)?;
+    print(rt, b"\n")
 }
 
 // Loads the program into a memory and runs it.
-fn print_loaded(file: &[u8], memory: &mut [u8], budget: u32) -> bool {
+fn print_loaded(rt: &impl Print, file: &[u8], memory: &mut [u8], budget: u32) -> io::Result<()> {
     match loader::load(file, memory) {
-        Loaded::Refused(r) => print_refusal(file, r),
+        Loaded::Refused(r) => print_refusal(rt, file, r),
         Loaded::Done(_) => {
             let out = runner::run(cleared(), memory, budget);
             let machine = out.machine;
             let outcome = out.outcome;
-            print_ran(outcome, out.count, machine.note)
+            print_ran(rt, outcome, out.count, machine.note)
         }
     }
 }
 
-fn print_run(file: &[u8], budget: u32) -> bool {
-    if !print(b"Run: ") {
-        return false;
-    }
+fn print_run(rt: &impl Print, file: &[u8], budget: u32) -> io::Result<()> {
+    print(rt, b"Run: ")?;
     let mut memory = [0u8; 65536];
-    print_loaded(file, &mut memory, budget)
+    print_loaded(rt, file, &mut memory, budget)
 }
 
-fn print_window(file: &[u8], budget: u32) -> bool {
-    if !print(b"Window: ") {
-        return false;
-    }
+fn print_window(rt: &impl Print, file: &[u8], budget: u32) -> io::Result<()> {
+    print(rt, b"Window: ")?;
     let v = verifier::verify(file);
     match v {
-        Verdict::Refused(r) => print_refusal(file, r),
-        Verdict::Fit(_) => print_verdict(v) && print_run(file, budget),
+        Verdict::Refused(r) => print_refusal(rt, file, r),
+        Verdict::Fit(_) => {
+            print_verdict(rt, v)?;
+            print_run(rt, file, budget)
+        }
     }
 }
 
-fn print_blocks(file: &[u8], budget: u32) -> bool {
-    if !print(b"Blocks: ") {
-        return false;
-    }
+fn print_blocks(rt: &impl Print, file: &[u8], budget: u32) -> io::Result<()> {
+    print(rt, b"Blocks: ")?;
     let checked = image::check(file);
     match checked {
-        Checked::Refused(r) => print_refusal(file, r),
+        Checked::Refused(r) => print_refusal(rt, file, r),
         Checked::Valid(_) => {
-            print_number(count_blocks(file, checked)) && print(b"\n") && print_window(file, budget)
+            print_number(rt, count_blocks(file, checked))?;
+            print(rt, b"\n")?;
+            print_window(rt, file, budget)
         }
     }
 }
 
 // All lines, down to the first that refuses.
-pub(crate) fn print_lines(file: &[u8], budget: u32) -> bool {
-    print(b"Title page: ") && print(&isa::MANUAL_DATE) && print(b"\n") && print_blocks(file, budget)
+pub(crate) fn print_lines(rt: &impl Print, file: &[u8], budget: u32) -> io::Result<()> {
+    print(rt, b"Title page: ")?;
+    print(rt, &isa::MANUAL_DATE)?;
+    print(rt, b"\n")?;
+    print_blocks(rt, file, budget)
 }

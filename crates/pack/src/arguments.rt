@@ -1,6 +1,8 @@
 // The window and the language of the code, as the program's arguments give them.
 use super::console::say;
 use digits::{LARGEST, digit_of, grow};
+use std::env::FillError;
+use std::rt::Env;
 
 // What the arguments come to: the window's start and length in bytes, or
 // nothing, when standard error has been told why.
@@ -62,92 +64,103 @@ fn parse(text: &[u8]) -> Number {
     }
 }
 
-fn read_number(i: usize) -> Number {
-    let mut text = io::buffer();
-    let n = os::arg(i, &mut text);
-    if os::errno() != 0 {
-        return Number::TooLong;
+fn read_number(rt: &impl Env, i: usize) -> Number {
+    let mut text = [0u8; 4096];
+    match rt.arg(i, &mut text) {
+        Ok(n) => parse(&text[..n]),
+        Err(_) => Number::TooLong,
     }
-    parse(&text[..n])
+}
+
+// Whether there is an argument `i`.
+fn is_given(rt: &impl Env, i: usize) -> bool {
+    let mut start = [0u8; 1];
+    match rt.arg(i, &mut start) {
+        Err(FillError::NotPresent) => false,
+        _ => true,
+    }
 }
 
 // Whether the code is an assembler text: then there is a third argument, `source`.
-pub(crate) fn is_source() -> bool {
-    os::arg_count() == 4
+pub(crate) fn is_source(rt: &impl Env) -> bool {
+    is_given(rt, 3) && !is_given(rt, 4)
 }
 
 // The name by which the user called, in front of what is said.
-fn say_name() {
-    if is_source() {
-        say(b"assemble: ");
+fn say_name(rt: &impl Env, err: &impl Print) {
+    if is_source(rt) {
+        say(err, b"assemble: ");
     } else {
-        say(b"pack: ");
+        say(err, b"pack: ");
     }
 }
 
-fn complain(name: &[u8], words: &[u8]) {
-    say_name();
-    say(name);
-    say(words);
+fn complain(rt: &impl Env, err: &impl Print, name: &[u8], words: &[u8]) {
+    say_name(rt, err);
+    say(err, name);
+    say(err, words);
 }
 
 // Says why the argument of that name is no value.
-fn refuse(name: &[u8], number: Number) {
+fn refuse(rt: &impl Env, err: &impl Print, name: &[u8], number: Number) {
     match number {
         Number::Value(_) => (),
         Number::NotANumber => complain(
+            rt,
+            err,
             name,
             b" is not a number, in decimal or in hexadecimal with 0x in front\n",
         ),
-        Number::TooLarge => complain(name, b" is above 65535\n"),
-        Number::TooLong => complain(name, b" is longer than 4096 characters\n"),
+        Number::TooLarge => complain(rt, err, name, b" is above 65535\n"),
+        Number::TooLong => complain(rt, err, name, b" is longer than 4096 characters\n"),
     }
 }
 
-fn read_both() -> Window {
-    let start = read_number(1);
+fn read_both(rt: &impl Env, err: &impl Print) -> Window {
+    let start = read_number(rt, 1);
     let Number::Value(w) = start else {
-        refuse(b"w", start);
+        refuse(rt, err, b"w", start);
         return Window::Missing;
     };
-    let length = read_number(2);
+    let length = read_number(rt, 2);
     let Number::Value(l) = length else {
-        refuse(b"l", length);
+        refuse(rt, err, b"l", length);
         return Window::Missing;
     };
     Window::At(w, l)
 }
 
 // Whether the third argument is the word for an assembler text.
-fn says_source() -> bool {
-    let mut word = io::buffer();
-    let n = os::arg(3, &mut word);
-    n == 6
-        && word[0] == b's'
-        && word[1] == b'o'
-        && word[2] == b'u'
-        && word[3] == b'r'
-        && word[4] == b'c'
-        && word[5] == b'e'
+fn says_source(rt: &impl Env) -> bool {
+    let mut word = [0u8; 6];
+    match rt.arg(3, &mut word) {
+        Ok(n) => n == 6 && word == *b"source",
+        Err(_) => false,
+    }
 }
 
 // The window that the program was started with.
-pub(crate) fn read_window() -> Window {
-    let count = os::arg_count();
-    if count == 3 {
-        return read_both();
+pub(crate) fn read_window(rt: &impl Env, err: &impl Print) -> Window {
+    if !is_given(rt, 1) {
+        say(
+            err,
+            b"pack: w and l are missing: the start and the length of the window in bytes\n",
+        );
+        return Window::Missing;
     }
-    if count == 4 {
-        if says_source() {
-            return read_both();
-        }
+    if !is_given(rt, 2) {
+        say(
+            err,
+            b"pack: l is missing: the length of the window in bytes\n",
+        );
+        return Window::Missing;
     }
-    if count > 3 {
-        say(b"pack: too many arguments: there are w and l, and source if the code is a text\n");
-    } else if count == 2 {
-        say(b"pack: l is missing: the length of the window in bytes\n");
-    } else {
-        say(b"pack: w and l are missing: the start and the length of the window in bytes\n");
+    if !is_given(rt, 3) || (is_source(rt) && says_source(rt)) {
+        return read_both(rt, err);
     }
+    say(
+        err,
+        b"pack: too many arguments: there are w and l, and source if the code is a text\n",
+    );
     Window::Missing
 }

@@ -1,20 +1,19 @@
 // Words, numbers and bytes on standard error.
 use digits::last_digit;
-use libc::STDERR_FILENO;
 
-pub(crate) fn say(text: &[u8]) {
-    io::write_all(STDERR_FILENO, text);
+pub(crate) fn say(err: &impl Print, text: &[u8]) {
+    let _ = err.write_all(text);
 }
 
-pub(crate) fn say_number(n: u64) {
-    io::print_decimal(STDERR_FILENO, n);
+pub(crate) fn say_number(err: &impl Print, n: u64) {
+    let _ = err.print(n);
 }
 
 // A byte of the text: the character, or a number where it has none of its own.
-pub(crate) fn say_byte(b: u8) {
+pub(crate) fn say_byte(err: &impl Print, b: u8) {
     if b > b' ' && b <= b'~' {
         let text = [b'\'', b, b'\''];
-        say(&text);
+        say(err, &text);
     } else {
         let text = [
             b'0',
@@ -22,7 +21,7 @@ pub(crate) fn say_byte(b: u8) {
             last_digit((b / 16) as u16),
             last_digit(b as u16),
         ];
-        say(b"byte ");
-        say(&text);
+        say(err, b"byte ");
+        say(err, &text);
     }
 }

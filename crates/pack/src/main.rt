@@ -15,13 +15,14 @@ mod source;
 
 use arguments::Window;
 
-fn main() {
-    let window = arguments::read_window();
+fn main(rt: HostRuntime) {
+    let err = rt.stderr();
+    let window = arguments::read_window(&rt, &err);
     if let Window::At(w, l) = window {
-        if arguments::is_source() {
-            source::make(w, l);
+        if arguments::is_source(&rt) {
+            source::make(&rt, &err, w, l);
         } else {
-            maker::make(w, l);
+            maker::make(&rt, &err, w, l);
         }
     }
 }

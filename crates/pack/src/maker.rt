@@ -6,8 +6,8 @@ use super::arguments::is_source;
 use super::complaints::{say_fault, say_refusal};
 use super::input::read_code;
 use super::scanner::Status;
-use libc::STDOUT_FILENO;
 use packer::Packed;
+use std::rt::Env;
 
 // One more than an image holds, so that the packer sees that there are too many.
 const ROOM: usize = image::MOST_CODE + 1;
@@ -24,16 +24,23 @@ fn image_bytes(n: usize) -> usize
 }
 
 // Packs the code into an output of the image's length, and writes it.
-fn write_image(code: &[u16], w: u16, l: u16, out: &mut [u8]) {
+fn write_image(
+    rt: &(impl Print + Eprint + Env + AllocGlobal),
+    err: &impl Print,
+    code: &[u16],
+    w: u16,
+    l: u16,
+    out: &mut [u8],
+) {
     let packed = packer::pack(code, w, l, out);
     match packed {
-        Packed::Refused(r) => say_refusal(r, code.len(), w, l),
+        Packed::Refused(r) => say_refusal(err, r, code.len(), w, l),
         Packed::Done => {
-            if !io::write_all(STDOUT_FILENO, out) {
-                if is_source() {
-                    os::fail(b"assemble: standard output");
+            if let Err(error) = rt.write_all(out) {
+                if is_source(rt) {
+                    streams::say_failure(rt, "assemble: standard output", error);
                 } else {
-                    os::fail(b"pack: standard output");
+                    streams::say_failure(rt, "pack: standard output", error);
                 }
             }
         }
@@ -41,21 +48,32 @@ fn write_image(code: &[u16], w: u16, l: u16, out: &mut [u8]) {
 }
 
 // Packs the code and writes the image, or says why not.
-pub(crate) fn pack(code: &[u16], w: u16, l: u16) {
-    let mut space = io::large_buffer();
+pub(crate) fn pack(
+    rt: &(impl Print + Eprint + Env + AllocGlobal),
+    err: &impl Print,
+    code: &[u16],
+    w: u16,
+    l: u16,
+) {
+    let mut space = [0u8; image::MOST_BYTES];
     let size = image_bytes(code.len());
-    write_image(code, w, l, &mut space[..size]);
+    write_image(rt, err, code, w, l, &mut space[..size]);
 }
 
 // Makes the image of the text, with the window of `l` bytes from `w`.
-pub(crate) fn make(w: u16, l: u16) {
+pub(crate) fn make(
+    rt: &(impl Input + Print + Eprint + Env + AllocGlobal),
+    err: &impl Print,
+    w: u16,
+    l: u16,
+) {
     let mut code = [0u16; ROOM];
-    let scan = read_code(&mut code);
+    let scan = read_code(rt, &mut code);
     let n = scan.count;
     let status = scan.status;
     if let Status::Ended = status {
-        pack(&code[..n], w, l);
+        pack(rt, err, &code[..n], w, l);
     } else {
-        say_fault(status, scan.line);
+        say_fault(err, status, scan.line);
     }
 }

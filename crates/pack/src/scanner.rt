@@ -9,7 +9,7 @@ const MOST_DIGITS: u8 = 4;
 
 // How the text stands: there may be more of it, it has ended well, it could not
 // be read, or why it is none of halfwords.
-#[derive(Drop)]
+#[derive(Clone, Copy)]
 pub enum Status {
     Reading,
     Ended,
@@ -23,7 +23,7 @@ pub enum Status {
 // halfwords are kept; of the halfword that has begun its digits, whether `0x` is
 // in front, and its value so far; whether a comment has begun, and whether the
 // byte before was a carriage return.
-#[derive(Drop)]
+#[derive(Clone, Copy)]
 pub struct Scan {
     pub status: Status,
     pub line: u64,
