@@ -13,6 +13,7 @@ length_tabulate f i (suc n) = ap suc (length_tabulate f (suc i) n)
 
 from_at : (f : ℕ → ℕ) (i n j : ℕ) → j < n → get_or (tabulate_from f i n) j 0 ≡ f (i + j)
 unfolding tabulate_from
+from_at f i zero j h = elim h [ ]
 from_at f i (suc n) zero h = ap f (sym (add-zero i))
 from_at f i (suc n) (suc j) h = from_at f (suc i) n j (le_of_suc-le-suc h) ∙ ap f (omega arith)
 

@@ -5,7 +5,7 @@ ghost use Rattle.refusals.specs.Refusal.{refusal_in_block};
 use refusals::{Place, Refusal};
 
 // What a row of checks comes to: all passed, or the first that failed.
-#[derive(Drop)]
+#[derive(Clone, Copy)]
 pub enum Answer {
     Pass,
     Refused(Refusal),

@@ -15,7 +15,7 @@ use units::{InstructionIndex, MEMORY_BYTES, byte_address};
 
 // What an accepted file says of itself, in bytes: the length of its code (the
 // papers' c), and where its window starts (w) and how long it is (l).
-#[derive(Drop)]
+#[derive(Clone, Copy)]
 pub struct Layout {
     pub code_bytes: u16,
     pub window_start: u16,
@@ -23,7 +23,7 @@ pub struct Layout {
 }
 
 // The answer to a file: its layout, or the first check that it fails.
-#[derive(Drop)]
+#[derive(Clone, Copy)]
 pub enum Checked {
     Valid(Layout),
     Refused(Refusal),

@@ -11,7 +11,7 @@ use refusals::Refusal;
 
 // What a reader answers to a call: why its file is refused, a block, by the byte
 // of the file at which the block starts, or that none is left.
-#[derive(Drop)]
+#[derive(Clone, Copy)]
 pub enum Given {
     Refused(Refusal),
     Block(usize),
@@ -20,7 +20,7 @@ pub enum Given {
 
 // A file that is read block by block, the number of the block that comes next,
 // and what the checks said of the file when the reader was made.
-#[derive(Drop)]
+#[derive(Clone, Copy)]
 pub struct BlockReader<'a> {
     file: &'a [u8],
     next: usize,

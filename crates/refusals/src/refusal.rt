@@ -5,7 +5,7 @@ ghost use Rattle.refusals.specs.Refusal.{refusal, place_number, refusal_word};
 use units::ByteAddress;
 
 // What a refusal points at: nothing, a block of an image, or an instruction.
-#[derive(Drop)]
+#[derive(Clone, Copy)]
 pub enum Place {
     Nowhere,
     Block(u8),
@@ -13,7 +13,7 @@ pub enum Place {
 }
 
 // The number of the first check that failed, and where.
-#[derive(Drop)]
+#[derive(Clone, Copy)]
 pub struct Refusal {
     pub number: u8,
     pub place: Place,

@@ -4,11 +4,11 @@ ghost use Rattle.std.specs.Prelude.{◌≡◌};
 ghost use Rattle.units.specs.Address.{byte_address_of, instruction_index_of, branch_target_of, pc_sum};
 
 // The number of an instruction in its code, from 0.
-#[derive(Drop)]
+#[derive(Clone, Copy)]
 pub struct InstructionIndex(pub u16);
 
 // The address of a byte in memory.
-#[derive(Drop)]
+#[derive(Clone, Copy)]
 pub struct ByteAddress(pub u16);
 
 // The bytes of the machine's memory, one for each address.
