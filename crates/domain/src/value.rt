@@ -7,7 +7,7 @@ pub const MAX: u16 = 65535;
 
 // What is known of a register: it is at least `low`, at most `high`, and its
 // lowest `zeros` bits are 0.
-#[derive(Drop)]
+#[derive(Clone, Copy)]
 pub struct Value {
     pub low: u16,
     pub high: u16,
