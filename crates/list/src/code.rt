@@ -1,5 +1,5 @@
 // The code of an image as halfwords.
-ghost use Rattle.io.specs.Counts.{IsPrefixLen};
+ghost use Rattle.streams.specs.Counts.{IsPrefixLen};
 
 use image::{BLOCK_BYTES, BLOCK_CODE, HEADER_BYTES};
 use units::{ByteAddress, InstructionIndex};

@@ -6,7 +6,7 @@
 mod code;
 mod complaints;
 
-ghost use Rattle.io.specs.Counts.{IsPrefixLen};
+ghost use Rattle.streams.specs.Counts.{IsPrefixLen};
 
 use image::{Checked, Layout};
 use lister::Listed;

@@ -1,5 +1,5 @@
 // The text on standard input.
-ghost use Rattle.io.specs.Counts.{IsPrefixLen};
+ghost use Rattle.streams.specs.Counts.{IsPrefixLen};
 ghost use Rattle.pack.specs.Scanning.{Kept, KeptIn};
 
 use super::scanner::{Scan, Status, finish, is_reading, start, take_piece, with_status};

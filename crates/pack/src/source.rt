@@ -1,6 +1,6 @@
 // The image of the assembler text on standard input.
 ghost use Rattle.std.specs.Prelude.{◌≤◌, length};
-ghost use Rattle.io.specs.Counts.{IsPrefixLen};
+ghost use Rattle.streams.specs.Counts.{IsPrefixLen};
 
 use super::console::{say, say_byte, say_number};
 use super::maker::pack;
