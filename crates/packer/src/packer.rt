@@ -10,7 +10,7 @@ use refusals::{Refusal, refusal_of};
 use units::{InstructionIndex, byte_address};
 
 // The packer's answer: the output holds the image, or it is as it was.
-#[derive(Drop)]
+#[derive(Clone, Copy)]
 pub enum Packed {
     Done,
     Refused(Refusal),
