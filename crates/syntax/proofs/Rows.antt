@@ -10,7 +10,7 @@ use native.Mathlib.Omega.{arith}
 use lib.Dec.{T, eqb}
 use lib.ListN.{length, get_or}
 use borrow.Author.Tests.{eqb-true, eqb-false, not-true}
-use Rattle.text.specs.Text.{Text, is_small, is_digit, in_word, every, word, after_word, is_number, is_name}
+use Rattle.text.specs.Text.{Text, is_small, is_digit, in_word, word, after_word, is_number, is_name}
 use Rattle.syntax.specs.Syntax.{Pattern, Item, patterns, row_count, pattern_at, number_value, register_value}
 use Rattle.syntax.specs.Syntax.{condition_value, name_value, slot_value, before, given, below, values_of, item_or}
 use Rattle.syntax.specs.Syntax.{parse_from, parse}

@@ -48,6 +48,7 @@ fn digits_from(text: &[u8], at: usize, first: u64) -> Spot
 }
 
 // A number. A zero has no digit behind it.
+#[tactic(auto, using(crate::proofs::Digits::number_zero))]
 pub(crate) fn number_at(text: &[u8], at: usize) -> Spot
     requires { at ≤ length text.now }
     ensures { Spotted 110 text.now at result.value result.stop }
