@@ -104,7 +104,7 @@ module _ (file : List ℕ) (layout : Layout) (valid : check_of file ≡ Valid la
     unfolding code_length
     says_used =
         let size = valid_size file layout valid in
-        let in-last = last_used file layout valid in
+        let used_last = last_used file layout valid in
         let n = code_length_is file in
         ⊎_elim
         (λ q.

@@ -19,7 +19,7 @@ use Rattle.image.specs.declared.checker.Checked.{Checked}
 use Rattle.image.specs.declared.checker.Checked.TheVariants.{Valid, Refused}
 use Rattle.reader.specs.declared.reader.BlockReader.{BlockReader}
 use Rattle.reader.specs.declared.reader.Given.{Given}
-use Rattle.reader.specs.declared.reader.Given.TheVariants as goal
+use Rattle.reader.specs.declared.reader.Given.TheVariants as given
 use Rattle.image.proofs.Blocks.{block_length}
 use Rattle.image.proofs.Valid.{valid_layout}
 use Rattle.image_laws.specs.Claims.{reader_after, ReaderGives, AcceptedGives, RefusedGives, NoneLeftAtEnd}
@@ -30,11 +30,11 @@ module _ (file : List ℕ) where
     unfolding given_of
     given_there n = ap (given_as file n) valid
 
-    block_there : (n : ℕ) → n < blocks_in file → given_of file n ≡ goal.Block (block_bytes * n)
+    block_there : (n : ℕ) → n < blocks_in file → given_of file n ≡ given.Block (block_bytes * n)
     unfolding block_at
     block_there n h = given_there n ∙ simp (lt-ltb n (blocks_in file) h)
 
-    none_left : (n : ℕ) → blocks_in file ≤ n → given_of file n ≡ goal.NoneLeft
+    none_left : (n : ℕ) → blocks_in file ≤ n → given_of file n ≡ given.NoneLeft
     unfolding block_at
     none_left n h = given_there n ∙ simp (le-ltb n (blocks_in file) h)
 
@@ -50,16 +50,16 @@ module _ (file : List ℕ) where
     stays n h = ap (after_of n) (none_left n h)
 
   module _ (r : Refusal) (refused : check_of file ≡ Refused r) where
-    refusal_there : (n : ℕ) → given_of file n ≡ goal.Refused r
+    refusal_there : (n : ℕ) → given_of file n ≡ given.Refused r
     unfolding given_of
     refusal_there n = ap (given_as file n) refused
 
   past_last : (n : ℕ) (t : Bool) → is_left file n ≡ t
-      → cond t (goal.Block (block_bytes * n)) goal.NoneLeft ≡ goal.NoneLeft → blocks_in file ≤ n
+      → cond t (given.Block (block_bytes * n)) given.NoneLeft ≡ given.NoneLeft → blocks_in file ≤ n
   past_last n true e h = clash (cc)
   past_last n false e h = ltb-false n (blocks_in file) e
 
-  at_end : (n : ℕ) (a : Checked) → check_of file ≡ a → given_as file n a ≡ goal.NoneLeft
+  at_end : (n : ℕ) (a : Checked) → check_of file ≡ a → given_as file n a ≡ given.NoneLeft
       → (check_of file ≡ Valid (layout_of file)) × (blocks_in file ≤ n)
   unfolding block_at
   at_end n (Valid said) e h = (e ∙ ap Valid (valid_layout file said e), past_last n (is_left file n) refl h)

@@ -24,6 +24,7 @@ unused_all block used (suc n) z =
 pub unused_each : (block : List ℕ) (used n m : ℕ) → unused_zero block used n ≡ true → m < n
     → code_halfword block (used + m) ≡ 0
 unfolding unused_zero
+unused_each block used zero m e h = elim h [ ]
 unused_each block used (suc n) m e h =
     let both = (and-eq-true_iff (unused_zero block used n) (eqb (code_halfword block (used + n)) 0)).0 e in
     ⊎_elim
