@@ -99,22 +99,10 @@ module _ (h : ℕ) (fits : h < 65536) where
         by_half (suc zero) g = high g (eqb x 276) refl
         by_half (suc (suc n)) g = rw (f, g)
 
-  pub is_other : {B : Type 0} (x : ℕ) → x ≡ h / 64
-      → ((((((((((((((((B × Not x 256) × Not x 257) × Not x 258) × Not x 259) × Not x 260) × Not x 261) × Not x 272)
-      × Not x 273) × Not x 274) × Not x 275) × Not x 277) × Not x 278) × Not x 279) × Not x 280) × Not x 281)
-      × Not x 282) × Not x 283
+  pub is_other : (x : ℕ) → x ≡ h / 64 → (256 ≤ x → 262 ≤ x) → (272 ≤ x → 276 ≤ x) → (277 ≤ x → 284 ≤ x)
       → decode_of h ≡ other_else h
-  is_other x told n = go (eqb (field h 13 3) 2) refl
+  is_other x told alu add rest = go (eqb (field h 13 3) 2) refl
     where
-      alu : 256 ≤ x → 262 ≤ x
-      alu p = search (skip 256, skip 257, skip 258, skip 259, skip 260, skip 261) depth 8
-
-      add : 272 ≤ x → 276 ≤ x
-      add p = search (skip 272, skip 273, skip 274, skip 275) depth 6
-
-      rest : 277 ≤ x → 284 ≤ x
-      rest p = search (skip 277, skip 278, skip 279, skip 280, skip 281, skip 282, skip 283) depth 9
-
       go : (t : Bool) → eqb (field h 13 3) 2 ≡ t → decode_of h ≡ other_else h
       go true e = no_registers x told (eqb-true (field h 13 3) 2 e) alu add rest ∙ sym (simp e)
       go false e = sym (simp e)
@@ -126,26 +114,25 @@ module _ (h : ℕ) (fits : h < 65536) where
   no_imm : Not (field h 11 5) 4 → Not (field h 11 5) 5 → field h 13 3 ≡ 1 → 2 ≤ field h 11 2
   no_imm n n' f = omega (arith, parts h fits)
 
-  pub is_branch_or_none : {B : Type 0} (n : ℕ) → n ≡ field h 11 5
-      → (((((((B × Not n 0) × Not n 4) × Not n 5) × Not n 12) × Not n 13) × Not n 14) × Not n 15) × Not n 20
-      → other_else h ≡ branch_else h
-  is_branch_or_none n told r = by_format (field h 13 3) refl
+  pub is_branch_or_none : (n : ℕ) → n ≡ field h 11 5 → Not n 0 → Not n 4 → Not n 5 → Not n 12 → Not n 13 → Not n 14
+      → Not n 15 → Not n 20 → other_else h ≡ branch_else h
+  is_branch_or_none n told halt mov cmp str ldr strb ldrb add_pc = by_format (field h 13 3) refl
     where
       -- what the last arm is told, of the field itself
       not_here : {k : ℕ} → Not n k → Not (field h 11 5) k
       not_here other z = other (told ∙ z)
 
       by_format : (t : ℕ) → field h 13 3 ≡ t → other_else h ≡ branch_else h
-      by_format zero f = simp (f, le-ltb h 256 (no_halt (not_here (search))))
+      by_format zero f = simp (f, le-ltb h 256 (no_halt (not_here halt)))
       by_format (suc zero) f =
-          rw f (entry_past (imm_table h) (field h 11 2) (no_imm (not_here (search)) (not_here (search)) f))
+          rw f (entry_past (imm_table h) (field h 11 2) (no_imm (not_here mov) (not_here cmp) f))
       by_format (suc (suc zero)) f = simp f
       by_format (suc (suc (suc zero))) f =
           absurd
-          (no_memory h fits (not_here (search)) (not_here (search)) (not_here (search)) (not_here (search)) f)
+          (no_memory h fits (not_here str) (not_here ldr) (not_here strb) (not_here ldrb) f)
       by_format (suc (suc (suc (suc zero)))) f = rw f
       by_format (suc (suc (suc (suc (suc zero))))) f =
-          simp (f, ne_eqb (field h 11 2) 0 (λ z. r.1 (told ∙ rw (parts h fits, f, z))))
+          simp (f, ne_eqb (field h 11 2) 0 (λ z. add_pc (told ∙ rw (parts h fits, f, z))))
       by_format (suc (suc (suc (suc (suc (suc zero)))))) f = rw f
       by_format (suc (suc (suc (suc (suc (suc (suc t))))))) f =
           simp (
