@@ -127,6 +127,7 @@ fn walk(file: &[u8], layout: Layout) -> Verdict
 // Puts checks 2 to 14 to a file of any bytes and any length. A pass answers c, w
 // and l; a refusal the first check that failed, and where: for checks 9 to 14
 // the byte address of the instruction.
+#[tactic(auto, unfolding(crate::specs::Verify::verify_of))]
 pub fn verify(file: &[u8]) -> Verdict
     ensures { result ≡ verify_of file.now }
 {
