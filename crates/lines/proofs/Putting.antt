@@ -1,12 +1,12 @@
 -- Lines to which something is added.
 use mathlib.Core.Path.{◌≡◌, sym, subst, ap₂, ◌∙◌}
 use mathlib.Core.List.{[], ◌∷◌, ◌++◌, append_assoc}
-use Prim.Native.Nat.{ℕ, suc, ◌+◌, ◌-◌, ◌≤◌, ◌<◌}
+use Prim.Native.Nat.{ℕ, suc, ◌+◌, ◌-◌, ◌<◌}
 use native.Mathlib.Omega.{arith}
-use lib.ListN.{length, set, replicate, length-append, length-replicate}
-use lib.Seq.{set-append_seam, length-take-le}
+use lib.ListN.{length, set, replicate, length-append}
+use lib.Seq.{set-append_seam}
 use Rattle.lines.specs.declared.writer.Line.{Line}
-use Rattle.lines.specs.Lines.{line_bytes, line_of, Within}
+use Rattle.lines.specs.Lines.{line_bytes, line_of}
 use Rattle.text.specs.Text.{Text}
 use Rattle.lines.specs.Parts.{Adds}
 
@@ -31,12 +31,3 @@ put_adds l b h s e =
     let room : length s < line_bytes = subst (λ (x : Line). x.length < line_bytes) e h in
     let count : length s + 1 ≡ length (s ++ (b ∷ [])) = simp length-append in
     rw e (ap₂ line (put_bytes s b room) count)
-
--- a line has all its bytes, and so its text
-pub line_within : (l : Line) (t : Text) → l ≡ line_of t → l.length ≤ line_bytes → Within l
-unfolding line_of
-line_within l t e h =
-    let room : length t ≤ line_bytes = subst (λ (x : Line). x.length ≤ line_bytes) e h in
-    let whole : length l.bytes ≡ line_bytes = rw e (simp (length-append, length-replicate) (omega arith)) in
-    let inside : l.length ≤ length l.bytes = omega arith in
-    (inside, sym (length-take-le l.length l.bytes inside))

@@ -1,5 +1,5 @@
 -- The line of a verdict ("Bench table", the program), as ASCII codes: `fit C W L` or `refused N P`.
-use Rattle.std.specs.Prelude.{List, [], ◌∷◌, ◌++◌, ◌≡◌, ℕ, ◌-◌, ◌≤◌, length, take, replicate}
+use Rattle.std.specs.Prelude.{[], ◌∷◌, ◌++◌, ◌≡◌, ℕ, ◌-◌, ◌≤◌, length, take, replicate}
 use Rattle.text.specs.Text.{Text, decimal}
 use Rattle.refusals.specs.Refusal.{place_number}
 use Rattle.refusals.specs.declared.refusal.Refusal.{Refusal}
