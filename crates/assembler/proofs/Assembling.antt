@@ -1,10 +1,9 @@
 -- The answer and the output, by what the passes say.
-use mathlib.Core.Bool.{Bool, true, false, cond, ◌&&◌}
+use mathlib.Core.Bool.{Bool, true, false, cond}
 use mathlib.Core.List.{List, [], ◌∷◌, ◌++◌}
 use mathlib.Core.Path.{◌≡◌, refl, ap, sym, ◌∙◌, subst}
-use Prim.Native.Nat.{ℕ, zero, suc, ◌+◌, ◌<◌, ◌≤◌}
+use Prim.Native.Nat.{ℕ, suc, ◌<◌, ◌≤◌}
 use native.Mathlib.Omega.{arith}
-use lib.Dec.{leb}
 use lib.ListN.{length, drop, set}
 use borrow.Author.Tests.{le-leb, lt-leb}
 use Rattle.units.proofs.Cases.{clash}
@@ -17,9 +16,8 @@ use Rattle.assembler.specs.Assemble.{Said, Nothing, Instructs, Fault, said_at, C
 use Rattle.assembler.specs.Assemble.{next_number, check_from, halfwords_of, Assembly, Assembles, Refuses, with_room}
 use Rattle.assembler.specs.Assemble.{assemble_read, assemble_of}
 use Rattle.assembler.specs.Assembled.{assembled_as, output_after, TriedOf}
-use Rattle.assembler.specs.Labels.{Holds}
 use Rattle.assembler.specs.Reading.{no_flaw, flaw_after, read_as, Entered}
-use Rattle.assembler.specs.Passes.{Ready, Unfolded, items_of, Made, Codes, Breaks, made_of, translated_as, put_from}
+use Rattle.assembler.specs.Passes.{Ready, Unfolded, items_of, made_of, translated_as, put_from}
 use Rattle.assembler.specs.Passes.{Written}
 use Rattle.assembler.specs.declared.reader.Flaw.{Flaw}
 use Rattle.assembler.specs.declared.assembler.Tried.{Tried}
@@ -28,7 +26,6 @@ use Rattle.assembler.specs.declared.assembler.Assembled.{Assembled}
 use Rattle.assembler.specs.declared.assembler.Assembled.TheVariants.{Done, Refused}
 use Rattle.assembler.specs.declared.reader.Counted.{Counted}
 use Rattle.assembler.specs.declared.reader.Counted.TheVariants as counted
-use Rattle.assembler.specs.declared.translator.Translated.{Translated}
 use Rattle.assembler.specs.declared.translator.Translated.TheVariants as translated
 use Rattle.assembler.proofs.Saying.{Kind, kind}
 use Rattle.assembler.proofs.Translating.{whole}

@@ -1,11 +1,11 @@
 -- What the notes of a text come to is what the definition says of its lines.
-use mathlib.Core.Bool.{Bool, true, false, cond, not, ◌&&◌}
+use mathlib.Core.Bool.{Bool, true, false, cond}
 use mathlib.Core.List.{List, [], ◌∷◌, ◌++◌, append_assoc}
 use mathlib.Core.Option.{Option, none, some}
 use mathlib.Core.Path.{◌≡◌, refl, ap, ap₂, sym, ◌∙◌, subst}
 use Prim.Native.Nat.{ℕ, zero, suc, ◌+◌, ◌<◌, ◌≤◌, ◌%◌, min}
 use native.Mathlib.Omega.{arith}
-use lib.Dec.{eqb, ltb}
+use lib.Dec.{eqb}
 use lib.ListN.{length, get_or, length-append}
 use borrow.Author.Tests.{eq-eqb, ne_eqb, eqb-true, eqb-false, lt-ltb, le-ltb}
 use Rattle.units.proofs.Cases.{clash}
@@ -16,9 +16,9 @@ use Rattle.assembler.specs.Assemble.{is_label, value_at, instructions_in, instru
 use Rattle.assembler.specs.Assemble.{definition_of, Said, Nothing, Instructs, Fault, label_said, field_said}
 use Rattle.assembler.specs.Assemble.{branch_said, said_at, Checked, Code, Fails, saying, next_number, check_from}
 use Rattle.assembler.specs.Labels.{number_of, aim_of}
-use Rattle.assembler.specs.Reading.{label_no, field_no, line_no, first_flaw, flaw_after, field_halfword}
+use Rattle.assembler.specs.Reading.{label_no, line_no, flaw_after, field_halfword}
 use Rattle.assembler.specs.Reading.{halfword_noted, aim_noted, NotedAt, Unless, Noted}
-use Rattle.assembler.specs.Passes.{said_as, field_meaning, aimed_meaning, noted_meaning, Made, Codes, Breaks, made_of}
+use Rattle.assembler.specs.Passes.{said_as, field_meaning, aimed_meaning, noted_meaning, Breaks, made_of}
 use Rattle.assembler.specs.Passes.{making, is_above, make_from}
 use Rattle.assembler.specs.declared.reader.Flaw.{Flaw}
 use Rattle.assembler.specs.declared.fields.Meaning.{Meaning}

@@ -5,11 +5,11 @@ use mathlib.Core.Option.{Option, none, some}
 use mathlib.Core.Path.{◌≡◌, refl, ap, sym, ◌∙◌, subst}
 use Prim.Native.Nat.{ℕ, ◌+◌, ◌-◌, ◌*◌, ◌≤◌}
 use native.Mathlib.Omega.{arith}
-use lib.Dec.{eqb, leb}
+use lib.Dec.{leb}
 use lib.ListN.{length, get_or}
 use borrow.Author.Tests.{leb-true}
 use Rattle.text.specs.Text.{Text, is_small, in_name, every, word, after_word, is_name, name_of, digits_after}
-use Rattle.syntax.specs.Syntax.{Pattern, Item, patterns, pattern_at, branch_row, slot_value, name_value, given}
+use Rattle.syntax.specs.Syntax.{Item, patterns, pattern_at, branch_row, slot_value, name_value, given}
 use Rattle.syntax.specs.Syntax.{starts_with, tail, before, values_of, parse}
 use Rattle.text.proofs.Words.{and_left}
 use Rattle.text.proofs.Decimal.{digits_grow}

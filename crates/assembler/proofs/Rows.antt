@@ -1,6 +1,6 @@
 -- The fields of an instruction's line: what the code tells of them is what the rows say. A register or a value is held
 -- as a byte, and one that no byte holds as 255.
-use mathlib.Core.Bool.{Bool, true, false, cond, ◌&&◌}
+use mathlib.Core.Bool.{Bool, true, false}
 use mathlib.Core.List.{List, [], ◌∷◌}
 use mathlib.Core.Logic.{⊎_elim}
 use mathlib.Core.Option.{Option, none, some}
@@ -9,14 +9,13 @@ use Prim.Native.Nat.{ℕ, zero, suc, ◌+◌, ◌-◌, ◌*◌, ◌/◌, ◌%◌
 use native.Mathlib.Omega.{arith}
 use lib.Dec.{eqb, leb, ltb}
 use lib.ListN.{length, get_or}
-use borrow.Author.Tests.{le-leb, lt-leb, lt-ltb, le-ltb, leb-true, eq-eqb, ne_eqb}
+use borrow.Author.Tests.{le-leb, lt-leb, le-ltb, leb-true, eq-eqb, ne_eqb}
 use Rattle.text.proofs.Words.{and_right}
 use Rattle.units.proofs.Cases.{lt_or_ge}
 use Rattle.refusals.specs.declared.refusal.Refusal.{Refusal}
 use Rattle.isa.specs.declared.instruction.Instruction.{Instruction}
-use Rattle.isa.specs.declared.instruction.Instruction.TheVariants.{MovImm, CmpImm, And, Eor, Asr, Tst, Neg, Cmp}
-use Rattle.isa.specs.declared.instruction.Instruction.TheVariants.{AddHigh, CmpHigh, MovHigh, Str, Ldr, Strb, Ldrb}
-use Rattle.isa.specs.declared.instruction.Instruction.TheVariants.{AddPc, Branch, Halt}
+use Rattle.isa.specs.declared.instruction.Instruction.TheVariants.{CmpHigh}
+use Rattle.isa.specs.declared.instruction.Instruction.TheVariants.{Branch, Halt}
 use Rattle.isa.specs.declared.encoder.Encoded.{Encoded}
 use Rattle.isa.specs.declared.encoder.Encoded.TheVariants.{Halfword, Refused}
 use Rattle.isa.specs.Encode as Encode
@@ -24,7 +23,7 @@ use Rattle.isa.specs.Encode.{encode_of, imm_form, alu_form, high_form, memory_fo
 use Rattle.syntax.specs.Syntax.{given}
 use Rattle.syntax.specs.declared.parser.Item.{Item}
 use Rattle.assembler.specs.Assemble.{rows, instruction_of, in_fours, in_reach, branch_byte, halfword_in}
-use Rattle.assembler.specs.Passes.{item_in, said_as, field_meaning}
+use Rattle.assembler.specs.Passes.{item_in, field_meaning}
 use Rattle.assembler.specs.declared.fields.Meaning.{Meaning}
 use Rattle.assembler.specs.declared.fields.Meaning.TheVariants as meaning
 

@@ -1,6 +1,6 @@
 -- The count of instructions and the columns after a line, by its row.
 use mathlib.Core.List.{List}
-use mathlib.Core.Path.{◌≡◌, refl}
+use mathlib.Core.Path.{◌≡◌}
 use Prim.Native.Nat.{ℕ, ◌+◌}
 use lib.ListN.{set}
 use borrow.Author.Tests.{eq-eqb, ne_eqb}

@@ -1,6 +1,6 @@
 -- A line that the parser read, and what the definition makes of it.
 use mathlib.Core.Bool.{Bool, true, false, cond}
-use mathlib.Core.List.{List, [], ◌∷◌, ◌++◌}
+use mathlib.Core.List.{[], ◌∷◌}
 use mathlib.Core.Option.{Option, none, some}
 use mathlib.Core.Path.{◌≡◌, refl, ap, sym, ◌∙◌}
 use Prim.Native.Nat.{ℕ, suc, ◌+◌, ◌<◌, ◌≤◌}
@@ -14,7 +14,7 @@ use Rattle.syntax.specs.Syntax.{Item, parse}
 use Rattle.syntax.specs.Parser.{item_as, parsed_as, parsed_at}
 use Rattle.syntax.specs.declared.parser.Item as Code
 use Rattle.syntax.specs.declared.parser.Parsed.TheVariants as parsed
-use Rattle.assembler.specs.Assemble.{Read, Items, NoLine, reading, read_from}
+use Rattle.assembler.specs.Assemble.{Read, NoLine, reading, read_from}
 use Rattle.assembler.proofs.Prefix.{lines_behind}
 
 no_rest : (u : Text) → lines_of u ≡ remainder [] → u ≡ []

@@ -1,14 +1,11 @@
 -- The passes over the notes: what is left to be said, and what was put.
 use mathlib.Core.Bool.{Bool, true, false, cond}
-use mathlib.Core.List.{List, [], ◌∷◌}
-use mathlib.Core.Logic.{⊎_elim}
+use mathlib.Core.List.{List, []}
 use mathlib.Core.Option.{Option, none, some}
 use mathlib.Core.Path.{◌≡◌, refl, ap, ap₂, sym, ◌∙◌, subst}
-use Prim.Native.Nat.{ℕ, zero, suc, ◌+◌, ◌-◌, ◌%◌, ◌<◌, ◌≤◌}
+use Prim.Native.Nat.{ℕ, suc, ◌+◌, ◌-◌, ◌%◌, ◌<◌, ◌≤◌}
 use native.Mathlib.Numerals.{add-one}
 use native.Mathlib.Omega.{arith}
-use types.Run.{OneOf}
-use denote.Enum.Declared.{tag_of}
 use lib.Dec.{eqb}
 use lib.ListN.{length, get_or}
 use borrow.Author.Tests.{eq-eqb, ne_eqb}
@@ -17,9 +14,9 @@ use Rattle.isa.specs.declared.instruction.Instruction.{Instruction}
 use Rattle.isa.specs.declared.instruction.Instruction.TheVariants.{Branch}
 use Rattle.text.specs.Text.{Text}
 use Rattle.syntax.specs.Syntax.{Item, given}
-use Rattle.assembler.specs.Assemble.{instructions_in, check_from, in_reach, branch_byte}
+use Rattle.assembler.specs.Assemble.{check_from, in_reach, branch_byte}
 use Rattle.assembler.specs.Labels.{aim_of}
-use Rattle.assembler.specs.Reading.{no_flaw, flaw_after}
+use Rattle.assembler.specs.Reading.{no_flaw}
 use Rattle.assembler.specs.Passes.{Ready, items_of, field_meaning, aimed_meaning, noted_meaning, Made, Codes, Breaks}
 use Rattle.assembler.specs.Passes.{made_of, making, is_above, make_from, out_after, translated_as, put_from, Written}
 use Rattle.assembler.specs.declared.fields.Meaning.{Meaning}
@@ -27,7 +24,6 @@ use Rattle.assembler.specs.declared.fields.Meaning.TheVariants as meaning
 use Rattle.assembler.specs.declared.reader.Flaw.{Flaw}
 use Rattle.assembler.specs.declared.translator.Translated.{Translated}
 use Rattle.assembler.specs.declared.translator.Translated.TheVariants as translated
-use Rattle.assembler.specs.contracts.fields.Meaning.{the_type}
 use Rattle.assembler.proofs.Making.{spoken}
 
 -- what the whole text comes to
@@ -58,10 +54,7 @@ Passed text out₀ r out = (r ≡ translated_as (whole text)) × Written (whole 
 
 -- an instruction that fails no check
 abbrev pub Good : Meaning → Type 0
-Good r = OneOf (0 ∷ 1 ∷ []) (tag_of the_type r)
-
-good_fault : (n : ℕ) → Good (meaning.Fault n) → ⊥
-good_fault n = ⊎_elim (λ e. omega (arith, e)) (λ e. omega (arith, e))
+Good r = (number : ℕ) → r ≡ meaning.Fault number → ⊥
 
 module _ (text halfwords aims lines out₀ : List ℕ) (n : ℕ) (flaw : Flaw) where
   abbrev items : List Item
@@ -146,7 +139,7 @@ module _ (text halfwords aims lines out₀ : List ℕ) (n : ℕ) (flaw : Flaw) w
 
           go : (r : Meaning) → said ≡ r → Good r → out' ≡ out_after r i out → Turn out' (i + 1)
           go meaning.Nothing e g p = absurd (notes_say items i (get_or halfwords i 0) (get_or aims i 0) (sym asked ∙ e))
-          go (meaning.Fault number) e g p = absurd (good_fault number g)
+          go (meaning.Fault number) e g p = absurd (g number refl)
           go (meaning.Halfword h) e g p =
               let later = left (n - (i + 1)) (suc i) in
               let all : left (n - i) i ≡ making (get_or lines i 0) (meaning.Halfword h) later =

@@ -1,10 +1,9 @@
 -- One line more of a text, of the table and of the notes.
 use mathlib.Core.Bool.{Bool, true, false, cond}
 use mathlib.Core.List.{List, [], ◌∷◌, ◌++◌, append_assoc, append-nil}
-use mathlib.Core.Option.{Option, none, some}
+use mathlib.Core.Option.{some}
 use mathlib.Core.Path.{◌≡◌, refl, ap, ap₂, sym, ◌∙◌, subst}
-use Prim.Native.Nat.{ℕ, suc, ◌+◌, ◌<◌, ◌≤◌}
-use native.Mathlib.Numerals.{add-one}
+use Prim.Native.Nat.{ℕ, ◌+◌, ◌<◌, ◌≤◌}
 use native.Mathlib.Omega.{arith}
 use lib.Dec.{eqb}
 use lib.ListN.{length, take, drop, set, length-append, length-set}
@@ -13,15 +12,15 @@ use borrow.Author.Tests.{eqb-true}
 use Rattle.labels.specs.Table.{labels_after}
 use Rattle.labels.proofs.Probes.{after_length}
 use Rattle.text.specs.Text.{Text, lines_of}
-use Rattle.syntax.specs.Syntax.{Item, label_row, branch_row, parse}
+use Rattle.syntax.specs.Syntax.{Item, branch_row, parse}
 use Rattle.syntax.specs.Parser.{item_as, parsed_at}
 use Rattle.syntax.specs.declared.parser.Item as Code
 use Rattle.syntax.specs.declared.parser.Parsed.TheVariants as parsed
 use Rattle.assembler.specs.Assemble.{Read, Items, NoLine, reading, read_from, is_label, value_at, instructions_in}
 use Rattle.assembler.specs.Labels.{Holds}
-use Rattle.assembler.specs.Passes.{AllRead, Known, items_in, items_of, item_in}
+use Rattle.assembler.specs.Passes.{Known, items_in, items_of, item_in}
 use Rattle.assembler.specs.Reading.{line_no, no_flaw, first_flaw, flaw_after, halfword_noted, aim_noted, NotedAt}
-use Rattle.assembler.specs.Reading.{Unless, Noted, Gathered, Named, read_as, Entered, count_after, column_after}
+use Rattle.assembler.specs.Reading.{Unless, Noted, Named, read_as, Entered, count_after, column_after}
 use Rattle.assembler.specs.Reading.{notes_after}
 use Rattle.assembler.specs.declared.reader.Flaw.{Flaw}
 use Rattle.assembler.specs.declared.reader.Counted.{Counted}
@@ -31,7 +30,7 @@ use Rattle.assembler.proofs.Names.{label_item_is, branch_name}
 use Rattle.assembler.proofs.Noting.{flaw_append, noted_append, noted_stays, noted_here}
 use Rattle.assembler.proofs.Prefix.{prepend, prepend_none, next_within, above_read}
 use Rattle.assembler.proofs.Steps.{not_read, Lined, lined, read_line}
-use Rattle.assembler.proofs.Table.{label_item, define_holds, instruction_holds}
+use Rattle.assembler.proofs.Table.{define_holds, instruction_holds}
 
 -- the items of labels and branches have names
 pub named : (t : Text) {x : Item} {y : Code.Item} → parse t ≡ some x → y ≡ item_as x → Named y

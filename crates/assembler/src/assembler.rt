@@ -103,7 +103,7 @@ fn assemble_with(
     out: &mut [u16],
 ) -> Tried
     requires holds { Holds names.old numbers.old [] }
-    requires aims_len { (length aims.old ≡ length halfwords.old) × (length lines.old ≡ length halfwords.old) }
+    requires columns { (length aims.old ≡ length halfwords.old) × (length lines.old ≡ length halfwords.old) }
     ensures { TriedOf (assemble_of text.now (length out.old))
         (length halfwords.old) out.old result out.new }
 {

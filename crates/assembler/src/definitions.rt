@@ -61,7 +61,7 @@ pub(crate) fn scan(text: &[u8], name: u64) -> Found
 
 pub(crate) fn definition_of(text: &[u8], names: &[u64], numbers: &[u64], name: u64) -> Found
     requires known { Known text.now names.now numbers.now }
-    requires fact { name ≡ 0 → ⊥ }
+    requires named { name ≡ 0 → ⊥ }
     ensures { aim_in result ≡ aim_of (items_of text.now) name }
 {
     let known = lookup(names, numbers, name);

@@ -11,7 +11,7 @@ use syntax::Item;
 
 // What a line says: nothing to put into the code, a halfword, or the number of
 // a check that it fails.
-#[derive(Drop)]
+#[derive(Clone, Copy)]
 pub enum Meaning {
     Nothing,
     Halfword(u16),

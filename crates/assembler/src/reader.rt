@@ -17,7 +17,7 @@ use labels::{Probed, define};
 use syntax::{Item, Parsed, parse};
 
 // The first line that fails 22 or 23 whatever branches do; number 0 for none.
-#[derive(Drop)]
+#[derive(Clone, Copy)]
 pub struct Flaw {
     pub number: u8,
     pub line: u64,
@@ -54,7 +54,7 @@ fn label_no(found: Found) -> u8
 // above it defines the name.
 fn enter_label(above: &[u8], names: &mut [u64], numbers: &mut [u64], name: u64, i: u64) -> u8
     requires known { Known above.now names.old numbers.old }
-    requires fact { name ≡ 0 → ⊥ }
+    requires named { name ≡ 0 → ⊥ }
     ensures { (result ≡ label_no (aim_of (items_of above.now) name))
         × (names.new ≡ labels_after names.old name names.old name)
         × (numbers.new ≡ labels_after names.old name numbers.old i) }
@@ -160,7 +160,7 @@ pub(crate) fn read_all(
     lines: &mut [u64],
 ) -> Counted
     requires holds { Holds names.old numbers.old [] }
-    requires aims_len { (length aims.old ≡ length halfwords.old) × (length lines.old ≡ length halfwords.old) }
+    requires columns { (length aims.old ≡ length halfwords.old) × (length lines.old ≡ length halfwords.old) }
     ensures { (result ≡ read_as (read_from 1 (lines_of text.now)))
         × Entered names.new numbers.new halfwords.new aims.new
         lines.new (read_from 1 (lines_of text.now)) }

@@ -1,6 +1,6 @@
 -- A store past the end changes nothing.
 use borrow.Author.Rules.{rules}
-use mathlib.Core.Path.{sym, refl}
+use mathlib.Core.Path.{sym}
 use lib.Seq.{set_out}
 use Rattle.assembler.proofs.columns.put.Statement.{statement}
 use Rattle.assembler.proofs.columns.put.Tie as tie

@@ -1,5 +1,4 @@
 -- The first flaw stays.
-use borrow.Author.Rules.{rules}
 use Rattle.assembler.proofs.Sayings.{flaw_first, flaw_kept}
 use Rattle.assembler.proofs.reader.first_flaw.Statement.{statement}
 use Rattle.assembler.proofs.reader.first_flaw.Tie as tie

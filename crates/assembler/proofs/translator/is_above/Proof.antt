@@ -1,5 +1,4 @@
 -- No flaw lies nowhere.
-use borrow.Author.Rules.{rules}
 use Rattle.assembler.proofs.Sayings.{none_above, some_above}
 use Rattle.assembler.proofs.translator.is_above.Statement.{statement}
 use Rattle.assembler.proofs.translator.is_above.Tie as tie
