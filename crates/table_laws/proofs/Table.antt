@@ -53,5 +53,5 @@ starred_rows =
       row_A001 = λ f note. gives _ _ _ refl (λ memory. refl);
       p_256 = refl;
       p_252 = refl;
-      p_21_fd = refl;
+      p_21FD = refl;
     }

@@ -71,4 +71,4 @@ pub record StarredRows : Type 0 where
   pub p_256 : verify_of (image_of (code_p 0x21FC) 256 256)
       ≡ Fit (record { code_bytes = 14; window_start = 256; window_length = 256 })
   pub p_252 : verify_of (image_of (code_p 0x21FC) 256 252) ≡ Refused (refusal_at 10 (record { 0 = 10 }))
-  pub p_21_fd : verify_of (image_of (code_p 0x21FD) 256 256) ≡ Refused (refusal_at 11 (record { 0 = 10 }))
+  pub p_21FD : verify_of (image_of (code_p 0x21FD) 256 256) ≡ Refused (refusal_at 11 (record { 0 = 10 }))
