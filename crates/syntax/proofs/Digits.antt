@@ -47,11 +47,11 @@ pub digit_high : (c : ℕ) → is_digit c ≡ true → c ≤ 57
 digit_high c e = leb-true c 57 (and_right (leb 48 c) (leb c 57) e)
 
 -- one more digit
-pub digits_snoc : (base zeroAt n : ℕ) (t : Text) (c : ℕ)
-    → digits_after base zeroAt n (t ++ (c ∷ [])) ≡ base * digits_after base zeroAt n t + (c - zeroAt)
+pub digits_snoc : (base lowest n : ℕ) (t : Text) (c : ℕ)
+    → digits_after base lowest n (t ++ (c ∷ [])) ≡ base * digits_after base lowest n t + (c - lowest)
 unfolding digits_after
-digits_snoc base zeroAt n [] c = refl
-digits_snoc base zeroAt n (d ∷ t) c = digits_snoc base zeroAt (base * n + (d - zeroAt)) t c
+digits_snoc base lowest n [] c = refl
+digits_snoc base lowest n (d ∷ t) c = digits_snoc base lowest (base * n + (d - lowest)) t c
 
 pub digits_start : (t : Text) (at first : ℕ) → at ≤ length t → first ≤ too_large → Digits t at first first at
 unfolding digits_after

@@ -174,11 +174,11 @@ within_digits (suc k) n =
     (λ h. every_append is_digit (decimal_within k (n / 10)) _ r (simp (digit_is (n % 10) (omega arith))))
 
 -- its value
-pub digits_snoc : (base zeroAt n : ℕ) (t : Text) (c : ℕ)
-    → digits_after base zeroAt n (t ++ (c ∷ [])) ≡ base * digits_after base zeroAt n t + (c - zeroAt)
+pub digits_snoc : (base lowest n : ℕ) (t : Text) (c : ℕ)
+    → digits_after base lowest n (t ++ (c ∷ [])) ≡ base * digits_after base lowest n t + (c - lowest)
 unfolding digits_after
-digits_snoc base zeroAt n [] c = refl
-digits_snoc base zeroAt n (d ∷ t) c = digits_snoc base zeroAt (base * n + (d - zeroAt)) t c
+digits_snoc base lowest n [] c = refl
+digits_snoc base lowest n (d ∷ t) c = digits_snoc base lowest (base * n + (d - lowest)) t c
 
 within_value : (k n : ℕ) → Short k n → number_of (decimal_within k n) ≡ n
 unfolding number_of decimal_within digits_after

@@ -41,10 +41,10 @@ unfoldable pub after_word : Text → Text
 after_word [] = []
 after_word (c ∷ t) = cond (in_word c) (after_word t) (c ∷ t)
 
--- digits to a base, the first one the highest, behind a number that stands before them; `zeroAt` is the code of 0
+-- digits to a base, the first one the highest, behind a number that stands before them; `lowest` is the code of 0
 unfoldable pub digits_after : ℕ → ℕ → ℕ → Text → ℕ
-digits_after base zeroAt n [] = n
-digits_after base zeroAt n (c ∷ t) = digits_after base zeroAt (base * n + (c - zeroAt)) t
+digits_after base lowest n [] = n
+digits_after base lowest n (c ∷ t) = digits_after base lowest (base * n + (c - lowest)) t
 
 -- a number in decimal: digits, with no zero in front of another digit; of any length
 abbrev pub is_empty : Text → Bool
