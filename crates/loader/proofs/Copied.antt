@@ -16,12 +16,6 @@ module _ (file memory : List ℕ) where
   unfolding with_code
   code_none count = let none : min 0 count ≡ 0 = omega arith in rw none refl
 
-  pub code_all : (now : List ℕ) (k count : ℕ) → now ≡ with_code file (min (block_code * k) count) memory
-      → count ≤ block_code * k → now ≡ with_code file count memory
-  code_all now k count e h =
-      let all : min (249 * k) count ≡ count = omega arith in
-      e ∙ ap (λ (i : ℕ). with_code file i memory) all
-
   pub code_long : (i : ℕ) → length (with_code file i memory) ≡ length memory
   unfolding with_code
   code_long zero = refl
@@ -48,17 +42,6 @@ module _ (file memory : List ℕ) (k : ℕ) where
   block_more before now i n h to less short fits et eb eh e =
       let goes : to + 2 * i ≡ wrap (2 * (249 * k + i)) = omega arith in
       e ∙ rw (add-one i, eb, eh, goes, in_row k i (omega arith)) refl
-
-  pub block_all : (now : List ℕ) (i n : ℕ) → now ≡ with_block file k i memory → i ≤ n → n ≤ i
-      → now ≡ with_block file k n memory
-  block_all now i n e h g =
-      let all : i ≡ n = omega arith in
-      e ∙ ap (λ (j : ℕ). with_block file k j memory) all
-
-  pub block_long : (i : ℕ) → length (with_block file k i memory) ≡ length memory
-  unfolding with_block
-  block_long zero = refl
-  block_long (suc i) = simp length-set (block_long i)
 
   -- they follow those of the blocks before
   block_after : (i : ℕ)

@@ -17,7 +17,7 @@ use Rattle.verifier.proofs.Accepted.{count_is}
 use Rattle.verifier.proofs.Fit.{fit_checked}
 use Rattle.loader.specs.Copy.{with_code, cleared}
 use Rattle.loader.specs.Load.{loaded_memory}
-use Rattle.loader.proofs.Loaded.{load_is}
+use Rattle.loader.proofs.Placed.{load_is}
 
 module _ (file : List ℕ) (layout : Layout) (fit : verify_of file ≡ Fit layout) where
   valid : check_of file ≡ Valid layout
@@ -39,9 +39,6 @@ module _ (file : List ℕ) (layout : Layout) (fit : verify_of file ≡ Fit layou
 
     pub code_there : (i : ℕ) → i < n.0 → code_position i + 2 ≤ length file
     code_there i h = code_in_file file layout valid i (omega (arith, count))
-
-    pub code_fits_memory : 2 * n.0 ≤ memory_bytes
-    code_fits_memory = omega (arith, bytes, code_first, window_fits)
 
     -- the code is copied, then the window is cleared
     pub placed : (memory copied after : List ℕ) → length memory ≡ memory_bytes → copied ≡ with_code file n.0 memory

@@ -1,4 +1,3 @@
 pub mod Copied
-pub mod Loaded
+pub mod Placed
 pub mod Fit
-pub mod Answers

@@ -34,6 +34,7 @@ fn place(file: &[u8], layout: Layout, memory: &mut [u8])
 // Puts check 1 to a memory and checks 2 to 14 to a file, and loads the program:
 // its code goes to address 0, its window is cleared, and no other byte changes. A
 // refusal changes nothing.
+#[tactic(auto, unfolding(crate::specs::Load::load_of, crate::specs::Load::memory_after_load))]
 pub fn load(file: &[u8], memory: &mut [u8]) -> Loaded
     ensures { (result ≡ load_of file.now memory.old)
         × (memory.new ≡ memory_after_load file.now memory.old) }
