@@ -21,7 +21,7 @@ use Rattle.cpu.proofs.Notes.{keeping, step_note, traffic_note}
 use Rattle.runner.specs.Run.{RunResult, state, outcome_at, next_state, state_after, run_of}
 use Rattle.runner.specs.Traffic.{traffic_at, last_traffic, run_traffic}
 use Rattle.runner.specs.Lent.{unnoted_run}
-use Rattle.runner.proofs.Turns.{Steps, Last, not_last, whole_step}
+use Rattle.runner.proofs.Turns.{Steps, Last, whole_step}
 use Rattle.runner.proofs.Noted.{noting, run_noted}
 
 -- ---- the run's turns
@@ -66,7 +66,7 @@ reached_last s here count log log' regs memory regs' memory' k e leads put last 
     rw (put, silent) reached
   where
     quiet : (o : Outcome) (t : Traffic) → Last o → when_completed o t ≡ NoData
-    quiet Completed t last = absurd (not_last last)
+    quiet Completed t last = absurd (last refl)
     quiet Halted t last = refl
     quiet (Stopped number) t last = refl
     quiet (Refused r) t last = refl

@@ -1,14 +1,11 @@
 -- A run's turns: what is left of it at each is what was to be done at the start.
 use Prim.Native.Nat.{ℕ, suc, ◌+◌, ◌-◌, ◌<◌, ◌≤◌}
 use native.Mathlib.Omega.{arith}
-use mathlib.Core.List.{List, [], ◌∷◌}
-use mathlib.Core.Logic.{⊎_elim}
+use mathlib.Core.List.{List}
 use mathlib.Core.Path.{◌≡◌, refl, sym, ap, ◌∙◌, subst⁻¹}
 use lib.ListN.{get_or, length, set}
 use lib.Seq.{set-get_or}
 use borrow.Author.Tests.{eq-eqb, ne_eqb}
-use types.Run.{OneOf}
-use denote.Enum.Declared.{tag_of}
 use Rattle.units.specs.Address.{memory_bytes}
 use Rattle.refusals.specs.Refusal.{refusal}
 use Rattle.refusals.specs.declared.refusal.Refusal.{Refusal}
@@ -29,7 +26,6 @@ use Rattle.runner.specs.Ends.{as_run, Ended}
 use Rattle.runner.specs.Lent.{lent, unnoted_run}
 use Rattle.cpu.proofs.Endings.{halted_not_completed}
 use Rattle.cpu.proofs.Notes.{bare_step}
-use Rattle.cpu.specs.contracts.outcome.Outcome.{the_type}
 
 pub run_refused : (budget : ℕ) (regs : List ℕ) (s : Status) (memory : List ℕ) (r : Refusal)
     → (length memory ≡ memory_bytes → ⊥) → r ≡ refusal 1
@@ -68,12 +64,9 @@ unfolding run_from
 turn left count s r step =
     ap (λ (q : StepResult). go_on q.outcome q.state count (run_from left (count + 1) q.state)) step
 
--- what the last arm of the match on an outcome tells: its variant is not the first one, `Completed`
+-- what the last arm of the match on an outcome tells: it is not the first variant, `Completed`
 abbrev pub Last : Outcome → Type 0
-Last o = OneOf (1 ∷ 2 ∷ 3 ∷ []) (tag_of the_type o)
-
-pub not_last : Last Completed → ⊥
-not_last = ⊎_elim (λ e. omega (arith, e)) (⊎_elim (λ e. omega (arith, e)) (λ e. omega (arith, e)))
+Last o = o ≡ Completed → ⊥
 
 -- the run ends as such a step did
 abbrev ran : StepResult → ℕ → RunResult
@@ -85,7 +78,7 @@ last_step r count rest last = go r.outcome last
   where
     go : (o : Outcome) → Last o → unnoted_run (go_on o r.state count rest)
         ≡ ran (step_result (with_note 0 r.state.machine) r.state.memory o) count
-    go Completed last = absurd (not_last last)
+    go Completed last = absurd (last refl)
     go Halted last = refl
     go (Stopped number) last = refl
     go (Refused q) last = refl

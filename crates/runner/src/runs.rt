@@ -11,7 +11,7 @@ use refusals::Refusal;
 use traffic::{Traffic, last_traffic};
 
 // How a run ended: its budget was spent, or as its last step did.
-#[derive(Drop)]
+#[derive(Clone, Copy)]
 pub enum RunOutcome {
     Spent,
     Halted,
