@@ -1,0 +1,8 @@
+-- The mark, and the number behind it.
+use Rattle.text.proofs.Writing.{wrote, ◌then◌}
+use Rattle.lister.proofs.operands.put_note.Goals as goal
+
+pub returns : goal.returns
+returns c =
+    let w = wrote c.put_two-marked.ensures then wrote c.put_last.ensures in
+    (w.place, w.room)
