@@ -329,7 +329,7 @@ module _ (items : List Item) (n : ℕ) (x : Item) (xs : List Item) (cut : drop n
 abbrev Puts : Item → Said → Type 0
 Puts x Nothing = is_label x ≡ true
 Puts x (Instructs i) = is_label x ≡ false
-Puts x (Fault number) = Unit {0}
+Puts x (Fault v) = Unit {0}
 
 puts : (items : List Item) (k i : ℕ) (x : Item) → Puts x (said_at items k i x)
 unfolding said_at
