@@ -31,15 +31,25 @@ fn write_text(out: &impl Print, text: &[u8], length: usize) -> io::Result<()> {
     out.write_all(&text[..n])
 }
 
-fn write_listing(out: &impl Print, err: &impl Print, code: &[u16]) -> io::Result<()> {
-    let mut text = [0u8; MOST_TEXT];
-    match lister::list(code, &mut text) {
-        Listed::Done(n) => write_text(out, &text, n),
+// Writes the text that is made in the room.
+fn list_within(
+    out: &impl Print,
+    err: &impl Print,
+    code: &[u16],
+    room: &mut [u8],
+) -> io::Result<()> {
+    match lister::list(code, room) {
+        Listed::Done(n) => write_text(out, room, n),
         Listed::Refused(r) => {
             complaints::say_refusal(err, r);
             Ok(())
         }
     }
+}
+
+fn write_listing(out: &impl Print, err: &impl Print, code: &[u16]) -> io::Result<()> {
+    let mut text = [0u8; MOST_TEXT];
+    list_within(out, err, code, &mut text)
 }
 
 fn list_code(out: &impl Print, err: &impl Print, file: &[u8], layout: Layout) -> io::Result<()> {
