@@ -1,5 +1,5 @@
 // The image of the assembler text on standard input.
-ghost use Rattle.std.specs.Prelude.{◌≤◌, length};
+ghost use Rattle.std.specs.Prelude.{◌≡◌, ◌≤◌, length};
 ghost use Rattle.streams.specs.Counts.{IsPrefixLen};
 
 use super::console::{say, say_byte, say_number};
@@ -139,6 +139,34 @@ fn assemble(
     }
 }
 
+// Room for one byte more than the longest text, so that a longer one is seen to be
+// longer and no more of it is read.
+fn room() -> [u8; MOST + 1]
+    ensures { length result ≡ 524289 }
+{
+    [0; MOST + 1]
+}
+
+// Reads the text into such a room, and makes its image.
+fn read_and_make(
+    rt: &(impl Input + Print + Eprint + Env + AllocGlobal),
+    err: &impl Print,
+    room: &mut [u8],
+    w: u16,
+    l: u16,
+) {
+    match streams::read_full(rt, room) {
+        Ok(n) => {
+            if n > MOST {
+                say(err, b"assemble: the text is longer than 524288 bytes\n");
+            } else {
+                assemble(rt, err, &room[..n], w, l);
+            }
+        }
+        Err(error) => streams::say_failure(rt, "assemble: standard input", error),
+    }
+}
+
 // Makes the image of the text, with the window of `l` bytes from `w`.
 pub(crate) fn make(
     rt: &(impl Input + Print + Eprint + Env + AllocGlobal),
@@ -146,15 +174,6 @@ pub(crate) fn make(
     w: u16,
     l: u16,
 ) {
-    let mut buffer = [0u8; MOST + 1];
-    match streams::read_full(rt, &mut buffer) {
-        Ok(n) => {
-            if n > MOST {
-                say(err, b"assemble: the text is longer than 524288 bytes\n");
-            } else {
-                assemble(rt, err, &buffer[..n], w, l);
-            }
-        }
-        Err(error) => streams::say_failure(rt, "assemble: standard input", error),
-    }
+    let mut buffer = room();
+    read_and_make(rt, err, &mut buffer, w, l);
 }
