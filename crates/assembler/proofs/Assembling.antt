@@ -35,7 +35,8 @@ halfwords_length : (is : List Instruction) → length (halfwords_of is) ≡ leng
 halfwords_length [] = refl
 halfwords_length (i ∷ is) = ap suc (halfwords_length is)
 
-code_length_is : (items : List Item) (k i : ℕ) (xs : List Item) (is : List Instruction) → check_from items k i xs ≡ Code is
+code_length_is : (items : List Item) (k i : ℕ) (xs : List Item) (is : List Instruction) → check_from items k i xs
+    ≡ Code is
     → length is ≡ instructions_in xs
 unfolding check_from
 code_length_is items k i [] is e = let z : is ≡ [] = cc in ap length z
@@ -119,7 +120,8 @@ module _ {text names numbers halfwords aims lines : List ℕ} {n : ℕ} {flaw : 
   module _ (out : List ℕ) (least : 1 ≤ n) (most : n ≤ most_code) where
     checked : (c : Checked) → said text ≡ c → assemble_of text (length out) ≡ with_room (length out) c
     checked c e =
-        counted_as (length out) true (rw (le-leb 1 n least, le-leb n most_code most) refl) ∙ ap (with_room (length out)) e
+        counted_as (length out) true (rw (le-leb 1 n least, le-leb n most_code most) refl)
+        ∙ ap (with_room (length out)) e
 
     pub line_fails : {number line : ℕ} {r : Tried} → translated.Fault number line ≡ translated_as (whole text)
         → r ≡ Answer (Refused number line) → Tries text room out r out
@@ -149,7 +151,8 @@ module _ {text names numbers halfwords aims lines : List ℕ} {n : ℕ} {flaw : 
         → Written (whole text) 0 out after → Tries text room out (Answer (Done n)) after
     code_done {after} h e w = go (said text) refl e w
       where
-        go : (c : Checked) → said text ≡ c → translated.Done ≡ translated_as (made_of c) → Written (made_of c) 0 out after
+        go : (c : Checked) → said text ≡ c → translated.Done ≡ translated_as (made_of c)
+            → Written (made_of c) 0 out after
             → Tries text room out (Answer (Done n)) after
         go (Fails m l) p e w = clash (cc)
         go (Code is) p e w =

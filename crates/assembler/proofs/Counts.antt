@@ -20,7 +20,8 @@ instructions_append (y ∷ xs) x = go (is_label y) (instructions_append xs x)
     go false e = omega arith
 
 -- behind a label, and behind an instruction
-pub label_counted : (xs : List Item) (x : Item) → is_label x ≡ true → instructions_in (xs ++ (x ∷ [])) ≡ instructions_in xs
+pub label_counted : (xs : List Item) (x : Item) → is_label x ≡ true → instructions_in (xs ++ (x ∷ []))
+    ≡ instructions_in xs
 label_counted xs x e =
     instructions_append xs x ∙ ap (λ (b : Bool). instructions_in xs + cond b 0 1) e ∙ omega arith
 

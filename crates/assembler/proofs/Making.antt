@@ -58,7 +58,8 @@ not_above f above (x ∷ xs) k e h =
         → is_above (flaw_after (flaw_at (line_no above x) (1 + length above)) (above ++ (x ∷ [])) xs) k ≡ false
     go true q later = later (eqb-true (line_no above x) 0 q)
     go false q later =
-        rw (stuck (flaw_at (line_no above x) (1 + length above)) (above ++ (x ∷ [])) xs (eqb-false (line_no above x) 0 q))
+        rw (stuck (flaw_at (line_no above x) (1 + length above)) (above ++ (x ∷ [])) xs
+        (eqb-false (line_no above x) 0 q))
         (rw (q, le-ltb (1 + length above) k h) refl)
 
 -- a flaw further up than all that is left ends it
@@ -238,7 +239,8 @@ module _ (items : List Item) (hs us ls : List ℕ) where
           rw (note.line, note.halfword, note.aim, not_above f above (x ∷ xs) k clean (omega arith), e) refl
 
       -- an instruction that says the same by its notes, and has no flaw
-      spoken_on : (s : Said) → noted_meaning items i (halfword_noted x i) (aim_noted x) ≡ said_as s → line_no above x ≡ 0
+      spoken_on : (s : Said) → noted_meaning items i (halfword_noted x i) (aim_noted x) ≡ said_as s → line_no above x
+          ≡ 0
           → Later
           → made_of (saying k s (check_from items (suc k) (next_number x i) xs))
           ≡ make_from items (flaw_after f above (x ∷ xs)) hs us ls (suc (instructions_in xs)) i
@@ -292,7 +294,8 @@ module _ (items : List Item) (hs us ls : List ℕ) where
             (cond b (branch_said x i (definition_of (value_at x 1) items)) (field_said (instruction_of x i 0)))
             (check_from items (suc k) (suc i) xs))
             ≡ make_from items (flaw_after f above (x ∷ xs)) hs us ls (suc (instructions_in xs)) i
-        go true e = ap (λ (c : Checked). made_of (saying k (branch_said x i (definition_of (value_at x 1) items)) c)) same
+        go true e = ap (λ (c : Checked). made_of (saying k (branch_said x i (definition_of (value_at x 1) items)) c))
+            same
             ∙ at_branch l (eqb-true x.row branch_row e) later
         go false e = ap (λ (c : Checked). made_of (saying k (field_said (instruction_of x i 0)) c)) same
             ∙ at_other l e later

@@ -45,7 +45,8 @@ positive : (w : Text) → is_name w ≡ true → 97 ≤ name_of w
 unfolding is_name name_of digits_after
 positive [] h = absurd (false≢true h)
 positive (c ∷ t) h =
-    let small = and_left (is_small c) (every in_name t) (and_left (is_small c && every in_name t) (leb (length t) 7) h) in
+    let small = and_left (is_small c) (every in_name t)
+    (and_left (is_small c && every in_name t) (leb (length t) 7) h) in
     let first = leb-true 97 c (and_left (leb 97 c) (leb c 122) small) in
     omega (arith, digits_grow (256 * 0 + (c - 0)) t)
 

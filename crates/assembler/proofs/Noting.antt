@@ -59,7 +59,8 @@ module _ (hs us ls : List ℕ) (i h u l : ℕ) where
   noted_stays above [] q n = tt
   noted_stays above (x ∷ xs) q n = go (is_label x) refl q n.0 (noted_stays (above ++ (x ∷ [])) xs)
     where
-      go : (b : Bool) → is_label x ≡ b → instructions_in above + cond b (instructions_in xs) (suc (instructions_in xs)) ≤ i
+      go : (b : Bool) → is_label x ≡ b → instructions_in above + cond b (instructions_in xs) (suc (instructions_in xs))
+          ≤ i
           → Unless b (NotedAt hs us ls x (instructions_in above) (1 + length above))
           → (instructions_in (above ++ (x ∷ [])) + instructions_in xs ≤ i → Noted hs us ls (above ++ (x ∷ [])) xs
           → Noted (set hs i h) (set us i u) (set ls i l) (above ++ (x ∷ [])) xs)

@@ -82,7 +82,8 @@ module _ (i j condition : ℕ) where
           near : j - i ≤ 127 → leb (j - i) 127 ≡ in_reach i j
           near l = rw (le-leb (j - i) 127 l, le-leb i (j + 128) (omega arith), le-leb j (i + 127) (omega arith)) refl
 
-      same : leb (j - i) 127 ≡ true → encode_of (Branch condition offset) ≡ encode_of (Branch condition (branch_byte i j))
+      same : leb (j - i) 127 ≡ true → encode_of (Branch condition offset)
+          ≡ encode_of (Branch condition (branch_byte i j))
       same t =
           let l = leb-true (j - i) 127 t in
           let byte : offset ≡ branch_byte i j = omega arith in
@@ -93,11 +94,13 @@ module _ (i j condition : ℕ) where
   branch_down h l p =
       let reach : in_reach i j ≡ true = rw (le-leb i (j + 128) (omega arith), le-leb j (i + 127) (omega arith)) refl in
       let byte : 256 - (i - j) ≡ branch_byte i j = omega arith in
-      fits (Branch condition (branch_byte i j)) reach (p ∙ ap (λ (b : ℕ). field_meaning (some (Branch condition b))) byte)
+      fits (Branch condition (branch_byte i j)) reach
+      (p ∙ ap (λ (b : ℕ). field_meaning (some (Branch condition b))) byte)
 
   pub branch_far : j < i → 128 < i - j
       → meaning.Fault 23 ≡ field_meaning (given (in_reach i j) (Branch condition (branch_byte i j)))
-  branch_far h l = unfit (Branch condition (branch_byte i j)) (in_reach i j) (rw (lt-leb i (j + 128) (omega arith)) refl)
+  branch_far h l = unfit (Branch condition (branch_byte i j)) (in_reach i j)
+      (rw (lt-leb i (j + 128) (omega arith)) refl)
 
 -- a register as a byte: none but a small one fits its bits
 narrowed : (v bound : ℕ) (f : ℕ → Encoded) → bound ≤ 255

@@ -29,7 +29,8 @@ no_rest (c ∷ u) e = go (eqb c feed) (lines_of u) e
 
 -- no line starts there
 pub not_read : (text : Text) (at : ℕ) → at < length text
-    → parsed_at at (lines_of (drop at text)) ≡ parsed.NoLine → (k : ℕ) → read_from k (lines_of (drop at text)) ≡ NoLine k
+    → parsed_at at (lines_of (drop at text)) ≡ parsed.NoLine → (k : ℕ) → read_from k (lines_of (drop at text))
+    ≡ NoLine k
 unfolding read_from
 not_read text at h e k = go (lines_of (drop at text)) refl e
   where

@@ -12,7 +12,8 @@ use borrow.Author.Tests.{eqb-true, eqb-false, eq-eqb, ne_eqb}
 use Rattle.units.proofs.Cases.{clash}
 use Rattle.syntax.specs.Syntax.{Item}
 use Rattle.assembler.specs.Assemble.{is_label, value_at, instructions_in, Definition, definition_from, definition_of}
-use Rattle.labels.specs.Table.{home, next_place, tries, probe_from, probe_of, entered, labels_after, lookup_of, labelled}
+use Rattle.labels.specs.Table.{home, next_place, tries, probe_from, probe_of, entered, labels_after, lookup_of}
+use Rattle.labels.specs.Table.{labelled}
 use Rattle.assembler.specs.Labels.{number_of, aim_of, Holds}
 use Rattle.labels.specs.declared.table.Probed.{Probed}
 use Rattle.labels.specs.declared.table.Probed.TheVariants.{Here, Free, Crowded}
@@ -48,7 +49,8 @@ definition_append k i n (x ∷ xs) ys =
         → definition_from (suc k) (suc i) n (xs ++ ys) ≡ or_else (definition_from (suc k) (suc i) n xs) (behind (suc i))
         → cond l (cond s (defined k i) (definition_from (suc k) i n (xs ++ ys)))
         (definition_from (suc k) (suc i) n (xs ++ ys))
-        ≡ or_else (cond l (cond s (defined k i) (definition_from (suc k) i n xs)) (definition_from (suc k) (suc i) n xs))
+        ≡ or_else (cond l (cond s (defined k i) (definition_from (suc k) i n xs))
+        (definition_from (suc k) (suc i) n xs))
         (definition_from (k + suc (length xs)) (i + cond l (instructions_in xs) (suc (instructions_in xs))) n ys)
     go true true e f = refl
     go true false e f = e
@@ -120,7 +122,8 @@ module _ (places : ℕ) (names : List ℕ) (at m : ℕ) (z : get_or names at 0 �
       go : (b : Bool) → eqb a at ≡ b
           → (probe_from places t (next a) names m ≡ Free at → probe_from places t (next a) (set names at m) m ≡ Here at)
           → cond (eqb (get_or (set names at m) a 0) m) (Here a)
-          (cond (eqb (get_or (set names at m) a 0) 0) (Free a) (probe_from places t (next a) (set names at m) m)) ≡ Here at
+          (cond (eqb (get_or (set names at m) a 0) 0) (Free a) (probe_from places t (next a) (set names at m) m))
+          ≡ Here at
       go true q r =
           let p : a ≡ at = eqb-true a at q in
           let s : get_or (set names at m) a 0 ≡ m =
@@ -159,11 +162,13 @@ module _ (places : ℕ) (names : List ℕ) (at m : ℕ) (z : get_or names at 0 �
           (rw (get_or-set_other names at a m 0 (eqb-false a at q)) at e)
 
 -- a free place holds no name
-free_zero : (places t a : ℕ) (names : List ℕ) (n at : ℕ) → probe_from places t a names n ≡ Free at → get_or names at 0 ≡ 0
+free_zero : (places t a : ℕ) (names : List ℕ) (n at : ℕ) → probe_from places t a names n ≡ Free at → get_or names at 0
+    ≡ 0
 unfolding probe_from
 free_zero places zero a names n at e = crowded_free at e
 free_zero places (suc t) a names n at e =
-    go (eqb (get_or names a 0) n) (eqb (get_or names a 0) 0) refl (free_zero places t (next_place places a) names n at) e
+    go (eqb (get_or names a 0) n) (eqb (get_or names a 0) 0) refl (free_zero places t (next_place places a) names n at)
+    e
   where
     go : (x y : Bool) → eqb (get_or names a 0) 0 ≡ y
         → (probe_from places t (next_place places a) names n ≡ Free at → get_or names at 0 ≡ 0)
@@ -174,11 +179,13 @@ free_zero places (suc t) a names n at e =
     go false false q r e = r e
 
 -- where a name is found it stands
-here_name : (places t a : ℕ) (names : List ℕ) (n at : ℕ) → probe_from places t a names n ≡ Here at → get_or names at 0 ≡ n
+here_name : (places t a : ℕ) (names : List ℕ) (n at : ℕ) → probe_from places t a names n ≡ Here at → get_or names at 0
+    ≡ n
 unfolding probe_from
 here_name places zero a names n at e = clash (cc)
 here_name places (suc t) a names n at e =
-    go (eqb (get_or names a 0) n) (eqb (get_or names a 0) 0) refl (here_name places t (next_place places a) names n at) e
+    go (eqb (get_or names a 0) n) (eqb (get_or names a 0) 0) refl (here_name places t (next_place places a) names n at)
+    e
   where
     go : (x y : Bool) → eqb (get_or names a 0) n ≡ x
         → (probe_from places t (next_place places a) names n ≡ Here at → get_or names at 0 ≡ n)

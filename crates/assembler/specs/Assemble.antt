@@ -166,7 +166,8 @@ with_room size (Code is) = cond (leb (length is) size) (Assembles (halfwords_of 
 
 abbrev pub assemble_read : ℕ → Read → Assembly
 assemble_read size (NoLine k) = Refuses 21 k
-assemble_read size (Items xs) = cond (check15 (instructions_in xs)) (with_room size (check_from xs 1 0 xs)) (Refuses 15 0)
+assemble_read size (Items xs) = cond (check15 (instructions_in xs)) (with_room size (check_from xs 1 0 xs))
+    (Refuses 15 0)
 
 -- of a text, into an output of so many halfwords
 unfoldable pub assemble_of : Text → ℕ → Assembly

@@ -1,5 +1,6 @@
 -- How the code of the passes holds what the definitions speak of.
-use Rattle.std.specs.Prelude.{Bool, cond, not, ◌&&◌, List, [], ◌∷◌, ◌≡◌, ℕ, zero, suc, ◌≤◌, ◌%◌, eqb, ltb, length, get_or, set}
+use Rattle.std.specs.Prelude.{Bool, cond, not, ◌&&◌, List, [], ◌∷◌, ◌≡◌, ℕ, zero, suc, ◌≤◌, ◌%◌, eqb, ltb, length}
+use Rattle.std.specs.Prelude.{get_or, set}
 use Rattle.std.proofs.Math.Option.{Option, none, some}
 use Rattle.isa.specs.declared.instruction.Instruction.{Instruction}
 use Rattle.isa.specs.declared.instruction.Instruction.TheVariants.{Branch}

@@ -1,6 +1,7 @@
 -- What the pass over a text answers, and what it leaves: the table of labels, and what it notes of each instruction.
 -- Only the contracts of private functions speak of it.
-use Rattle.std.specs.Prelude.{Bool, true, false, cond, List, [], ◌∷◌, ◌++◌, ◌≡◌, ℕ, ◌+◌, ◌≤◌, min, eqb, length, get_or, set}
+use Rattle.std.specs.Prelude.{Bool, true, false, cond, List, [], ◌∷◌, ◌++◌, ◌≡◌, ℕ, ◌+◌, ◌≤◌, min, eqb, length}
+use Rattle.std.specs.Prelude.{get_or, set}
 use Rattle.std.proofs.Math.Option.{Option, none, some}
 use Rattle.isa.specs.declared.instruction.Instruction.{Instruction}
 use Rattle.isa.specs.Encode.{encode_of}

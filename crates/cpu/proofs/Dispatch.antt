@@ -1,5 +1,6 @@
 -- What the bits tell by which the code sends a halfword to its function, where the definition goes by the top three.
-use Rattle.std.proofs.Common.{◌≡◌, ℕ, zero, suc, ◌+◌, ◌*◌, ◌/◌, ◌%◌, ◌<◌, ◌≤◌, Bool, true, false, eqb, ltb, sym, refl, ap, ◌∙◌, arith, lit<, ltb-true, le-ltb, lt-ltb, ne_eqb, eqb-true}
+use Rattle.std.proofs.Common.{◌≡◌, ℕ, zero, suc, ◌+◌, ◌*◌, ◌/◌, ◌%◌, ◌<◌, ◌≤◌, Bool, true, false, eqb, ltb, sym, refl}
+use Rattle.std.proofs.Common.{ap, ◌∙◌, arith, lit<, ltb-true, le-ltb, lt-ltb, ne_eqb, eqb-true}
 use borrow.Author.Tests.{eqb-false}
 use Rattle.units.specs.Field.{field, high_rs, high_rd}
 use Rattle.isa.specs.Decode.{entry, imm_table, alu_table, high_table, table, decode_of}

@@ -1,5 +1,6 @@
 -- How a step may end: it completes, it sets the note at HALT, or it leaves everything as it was.
-use Rattle.std.proofs.Common.{◌≡◌, ℕ, ◌*◌, ◌%◌, Bool, true, false, cond, eqb, ◌⊎◌, List, length, sym, refl, ap, ◌∙◌, inl, inr, ⊎_elim, arith}
+use Rattle.std.proofs.Common.{◌≡◌, ℕ, ◌*◌, ◌%◌, Bool, true, false, cond, eqb, ◌⊎◌, List, length, sym, refl, ap, ◌∙◌}
+use Rattle.std.proofs.Common.{inl, inr, ⊎_elim, arith}
 use Rattle.units.specs.Address.{memory_bytes}
 use Rattle.units.specs.Bytes.{halfword_at, with_halfword}
 use Rattle.units.proofs.Cases.{clash}

@@ -47,7 +47,8 @@ no_halt h k e other gave = none (halt_of h) k e (simp (le-ltb h 256 other)) gave
 
 -- what a branch leaves beside the registers is what it does
 pub branch_holds : (n offset : ℕ) (regs : List ℕ) (k : Control) {k' : Control} {test : Bool} → Whole regs
-    → test ≡ condition_of n (flags_in k) → k' ≡ branched test offset k → Holds regs k' (branchStep n offset (held regs k))
+    → test ≡ condition_of n (flags_in k) → k' ≡ branched test offset k
+    → Holds regs k' (branchStep n offset (held regs k))
 unfolding branchStep
 branch_holds n offset regs k {test = test} whole asked is = record { machine = rw is (go test refl); whole = whole }
   where

@@ -16,7 +16,8 @@ use Rattle.cpu.specs.Held.{unnoted}
 use Rattle.cpu.specs.Traffic.{decoded_traffic, when_completed, step_traffic}
 use Rattle.cpu.specs.Step.{State, StepResult, step_result, effective_address, aligned, execute_of, execute_decoded}
 use Rattle.cpu.specs.Step.{fetched, fetch_and_execute, step_of, mov_imm_of, cmp_imm_of, and_of, eor_of, asr_of, tst_of}
-use Rattle.cpu.specs.Step.{neg_of, cmp_of, add_high_of, cmp_high_of, mov_high_of, str_of, ldr_of, strb_of, ldrb_of, add_pc_of}
+use Rattle.cpu.specs.Step.{neg_of, cmp_of, add_high_of, cmp_high_of, mov_high_of, str_of, ldr_of, strb_of, ldrb_of}
+use Rattle.cpu.specs.Step.{add_pc_of}
 use Rattle.cpu.specs.Step.{branch_of}
 
 -- HALT's own note stays
@@ -37,7 +38,8 @@ either false n x y x' y' p q = q
 
 module _ (n : ℕ) (m : Machine) (memory : List ℕ) where
   execute_note : (i : Instruction) → execute_of i (with_note n m) memory ≡ relabelled n (execute_of i m memory)
-  unfolding execute_of mov_imm_of cmp_imm_of and_of eor_of asr_of tst_of neg_of cmp_of add_high_of cmp_high_of mov_high_of str_of ldr_of
+  unfolding execute_of mov_imm_of cmp_imm_of and_of eor_of asr_of tst_of neg_of cmp_of add_high_of cmp_high_of
+      mov_high_of str_of ldr_of
       strb_of ldrb_of add_pc_of branch_of
   execute_note (MovImm rd imm) = refl
   execute_note (CmpImm rd imm) = refl
@@ -83,7 +85,8 @@ pub bare_step : (m : Machine) (memory : List ℕ) → ((step_of (with_note 0 m) 
     → step_of (with_note 0 m) memory ≡ unnoted (step_of (with_note 0 m) memory)
 bare_step m memory other =
     let labelled = step_note 0 m memory in
-    let ended : (step_of m memory).outcome ≡ Halted → ⊥ = λ e. other (ap (λ (r : StepResult). r.outcome) labelled ∙ e) in
+    let ended : (step_of m memory).outcome ≡ Halted
+    → ⊥ = λ e. other (ap (λ (r : StepResult). r.outcome) labelled ∙ e) in
     labelled ∙ (kept (step_of m memory).outcome (step_of m memory).state ended ∙ ap unnoted (sym labelled))
   where
     kept : (o : Outcome) (s : State) → (o ≡ Halted → ⊥)

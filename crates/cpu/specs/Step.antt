@@ -14,7 +14,8 @@ use Rattle.cpu.specs.declared.machine.Machine.{Machine}
 use Rattle.cpu.specs.declared.outcome.Outcome.{Outcome}
 use Rattle.cpu.specs.declared.outcome.Outcome.TheVariants.{Completed, Halted, Stopped, Refused}
 use Rattle.cpu.specs.Machine.{reg, pc, flags, updated, with_note, advanced, written}
-use Rattle.alu.specs.Alu.{result_flags, sum_of, sum_flags, difference_of, difference_flags, shift_of, shift_flags, condition_of}
+use Rattle.alu.specs.Alu.{result_flags, sum_of, sum_flags, difference_of, difference_flags, shift_of, shift_flags}
+use Rattle.alu.specs.Alu.{condition_of}
 
 -- a machine and the memory beside it
 pub record State : Type 0 where

@@ -5,7 +5,8 @@ ghost use Rattle.std.specs.Prelude.{◌≡◌, ◌+◌, ◌<◌, length, slice_i
 ghost use Rattle.units.specs.Address.{wrap, memory_bytes};
 ghost use Rattle.units.specs.Field.{field, high_rs, high_rd};
 ghost use Rattle.isa.specs.declared.instruction.Instruction.TheVariants.{Str, Ldr, Strb, Ldrb};
-ghost use Rattle.cpu.specs.Step.{resulting, add_high_of, add_pc_of, and_of, asr_of, cmp_imm_of, cmp_of, cmp_high_of, eor_of};
+ghost use Rattle.cpu.specs.Step.{resulting, add_high_of, add_pc_of, and_of, asr_of, cmp_imm_of, cmp_of, cmp_high_of};
+ghost use Rattle.cpu.specs.Step.{eor_of};
 ghost use Rattle.cpu.specs.Step.{mov_imm_of, mov_high_of, neg_of, tst_of};
 ghost use Rattle.cpu.specs.Held.{held, branched, told_of, Whole, Holds, Leads};
 

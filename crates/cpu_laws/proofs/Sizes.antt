@@ -23,8 +23,10 @@ use Rattle.cpu.specs.Machine.{reg, pc, flags, updated, advanced, written}
 use Rattle.alu.specs.Flags.{Flags}
 use Rattle.alu.specs.Alu.{negative, shifted_of, shift_of, condition_of}
 use Rattle.cpu.specs.Step.{State, StepResult, step_result, completed, stopped, effective_address, aligned, add_high_of}
-use Rattle.cpu.specs.Step.{add_pc_of, and_of, asr_of, branch_of, cmp_imm_of, cmp_of, cmp_high_of, eor_of, ldr_of, ldrb_of, mov_imm_of}
-use Rattle.cpu.specs.Step.{mov_high_of, neg_of, str_of, strb_of, tst_of, execute_of, execute_decoded, fetched, fetch_and_execute}
+use Rattle.cpu.specs.Step.{add_pc_of, and_of, asr_of, branch_of, cmp_imm_of, cmp_of, cmp_high_of, eor_of, ldr_of}
+use Rattle.cpu.specs.Step.{ldrb_of, mov_imm_of}
+use Rattle.cpu.specs.Step.{mov_high_of, neg_of, str_of, strb_of, tst_of, execute_of, execute_decoded, fetched}
+use Rattle.cpu.specs.Step.{fetch_and_execute}
 use Rattle.cpu.specs.Step.{step_of}
 use Rattle.runner.specs.Run.{state, next_state, state_after}
 use Rattle.isa_laws.proofs.Narrow.{Narrow, decoded_narrow}
@@ -89,7 +91,8 @@ module _ (m : Machine) (memory : List ℕ) (r : Registers m.regs) (b : Bytes mem
   went_on after f kept = record { registers = advanced_sized m.regs r; bytes = kept }
 
   execute_sized : (i : Instruction) → Narrow i → Kept (execute_of i m memory)
-  unfolding execute_of add_high_of add_pc_of and_of asr_of branch_of cmp_imm_of cmp_of cmp_high_of eor_of ldr_of ldrb_of mov_imm_of
+  unfolding execute_of add_high_of add_pc_of and_of asr_of branch_of cmp_imm_of cmp_of cmp_high_of eor_of ldr_of ldrb_of
+      mov_imm_of
       mov_high_of neg_of str_of strb_of tst_of
   execute_sized (MovImm rd imm) n = wrote rd imm _ (omega arith)
   execute_sized (CmpImm rd imm) n = went_on memory _ b

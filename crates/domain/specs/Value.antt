@@ -14,7 +14,8 @@ largest_positive = 32767
 -- the value of the three numbers that a rule gives. Every rule below ends here: if only one number is left,
 -- that number's trailing zeros are the count (16 for 0), whatever the rule's own count is
 unfoldable pub interval_of : ℕ → ℕ → ℕ → Value
-interval_of low high zeros = record { low = low; high = high; zeros = cond (eqb low high) (count_trailing_zeros 16 low) zeros }
+interval_of low high zeros = record
+    { low = low; high = high; zeros = cond (eqb low high) (count_trailing_zeros 16 low) zeros }
 
 -- nothing is known
 abbrev pub unknown_of : Value

@@ -8,7 +8,8 @@ use borrow.Author.Tests.{ltb-false, le-ltb}
 use lib.Count.{count_leading_zeros}
 use lib.Dec.{ltb, leb}
 use lib.Pow.{pow_mono}
-use Rattle.domain.specs.Value.{largest, largest_positive, interval_of, unknown_of, exactly_of, add_of, and_of, bit_length_of}
+use Rattle.domain.specs.Value.{largest, largest_positive, interval_of, unknown_of, exactly_of, add_of, and_of}
+use Rattle.domain.specs.Value.{bit_length_of}
 use Rattle.domain.specs.Value.{ones_of, eor_of, asr_of, neg_of, byte_of}
 use Rattle.domain.specs.declared.value.Value.{Value}
 use Rattle.domain_laws.specs.Ordered.{Ordered}

@@ -10,7 +10,8 @@ use lib.Bits.{bit_and, bit_xor, and_le_l, and_le_r, xor_lt}
 use lib.Count.{count_leading_zeros, count_trailing_zeros, trailing_le, leading_length}
 use lib.Dec.{eqb, ltb, leb}
 use lib.Pow.{pow_mono, le_ones}
-use Rattle.domain.specs.Value.{largest, largest_positive, interval_of, add_of, and_of, bit_length_of, ones_of, eor_of, asr_of}
+use Rattle.domain.specs.Value.{largest, largest_positive, interval_of, add_of, and_of, bit_length_of, ones_of, eor_of}
+use Rattle.domain.specs.Value.{asr_of}
 use Rattle.domain.specs.declared.value.Value.{Value}
 use Rattle.domain_laws.specs.Holds.{Holds}
 use Rattle.domain_laws.specs.Sound.{UnknownSound, ExactlySound, ByteSound, AddSound, AndSound, EorSound, AsrSound}

@@ -40,7 +40,8 @@ unfolding count_trailing_zeros
 zeros_trailing zero n = mod-one n
 zeros_trailing (suc k) n = go (n % 2) refl (zeros_trailing k (n / 2))
   where
-    go : (d : ℕ) → n % 2 ≡ d → n / 2 % 2 ^ count_trailing_zeros k (n / 2) ≡ 0 → n % 2 ^ under d (count_trailing_zeros k (n / 2)) ≡ 0
+    go : (d : ℕ) → n % 2 ≡ d → n / 2 % 2 ^ count_trailing_zeros k (n / 2) ≡ 0
+        → n % 2 ^ under d (count_trailing_zeros k (n / 2)) ≡ 0
     go zero e p =
         ap (λ (k : ℕ). n % 2 ^ k) (sym (add-one _)) ∙ mod-pow-add n (count_trailing_zeros k (n / 2)) 1
         ∙ ap₂ (λ (a b : ℕ). a * 2 + b) p e

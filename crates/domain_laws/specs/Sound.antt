@@ -3,7 +3,8 @@
 -- it copies both.
 use Rattle.std.specs.Prelude.{ℕ, ◌+◌, ◌-◌, ◌%◌, ◌≤◌, ◌<◌}
 use Rattle.std.specs.Int.Bits.{bit_and, bit_xor}
-use Rattle.domain.specs.Value.{largest, largest_positive, unknown_of, exactly_of, add_of, and_of, eor_of, asr_of, neg_of}
+use Rattle.domain.specs.Value.{largest, largest_positive, unknown_of, exactly_of, add_of, and_of, eor_of, asr_of}
+use Rattle.domain.specs.Value.{neg_of}
 use Rattle.domain.specs.Value.{byte_of}
 use Rattle.domain.specs.declared.value.Value.{Value}
 use Rattle.domain_laws.specs.Holds.{Holds}

@@ -21,7 +21,8 @@ module _ (m : Machine) (memory : List ℕ) (t u : Traffic) (ending number : ℕ)
       → numbered m memory number ≡ numbered_step r u
   step_number o r is came = ap (numbered m memory) (number_is (outcome_number o) is) ∙ ap₂ numbered_step came told
 
-  pub run_number_is : (o : RunOutcome) (count : ℕ) (r : RunResult) → ending ≡ run_number o → run_result m memory o count ≡ r
+  pub run_number_is : (o : RunOutcome) (count : ℕ) (r : RunResult) → ending ≡ run_number o → run_result m memory o count
+      ≡ r
       → numbered m memory (number + count * 0x100000000) ≡ numbered_run r u
   run_number_is o count r is came =
       ap (λ (n : ℕ). numbered m memory (n + count * 0x100000000)) (number_is (run_number o) is)

@@ -1,5 +1,6 @@
 -- Checks 2 to 8 of a file ("The questions"): each is a test, and the first no is the answer.
-use Rattle.std.specs.Prelude.{Bool, true, ◌&&◌, cond, List, [], ◌∷◌, ◌++◌, ℕ, zero, suc, ◌+◌, ◌-◌, ◌*◌, ◌%◌, eqb, leb, length}
+use Rattle.std.specs.Prelude.{Bool, true, ◌&&◌, cond, List, [], ◌∷◌, ◌++◌, ℕ, zero, suc, ◌+◌, ◌-◌, ◌*◌, ◌%◌, eqb, leb}
+use Rattle.std.specs.Prelude.{length}
 use Rattle.units.specs.Address.{memory_bytes}
 use Rattle.refusals.specs.Refusal.{refusal, refusal_in_block}
 use Rattle.refusals.specs.declared.refusal.Refusal.{Refusal}

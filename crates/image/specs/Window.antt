@@ -4,4 +4,5 @@ use Rattle.image.specs.Block.{window_start_of, window_length_of}
 
 -- the start in the low 16 bits, the length above
 abbrev pub WindowIs : List ℕ → ℕ → Type 0
-WindowIs block window = (window ≡ window_start_of block + window_length_of block * 65536) × (window_start_of block < 65536)
+WindowIs block window = (window ≡ window_start_of block + window_length_of block * 65536)
+    × (window_start_of block < 65536)

@@ -55,6 +55,7 @@ check_then_pack file c w l out bytes valid same =
     (done, ap (λ (a : Packed). output_as a (image_of code w l) out) done ∙ image_again file said valid bytes)
 
 pub worked_example : WorkedExample
-unfolding tabulate_from sum_below body_halfword balance_of image_halfword byte_of image_of block_of code_at code_length code_of
+unfolding tabulate_from sum_below body_halfword balance_of image_halfword byte_of image_of block_of code_at code_length
+    code_of
     first_no check2 check3 check4 check5 check6 check7 check8 unused_zero rows_below layout_of check_of
 worked_example = (refl, refl, refl, refl)

@@ -96,7 +96,8 @@ module _ (code : List ℕ) (w l : ℕ) where
 
     passes5 : check5 k (blocks_in image) block ≡ true
     unfolding check5 body_halfword
-    passes5 = ap₂ ◌&&◌ (eq-eqb _ _ (header_at 1 (omega arith))) (eq-eqb _ _ (header_at 5 (omega arith) ∙ sym blocks_in_are))
+    passes5 = ap₂ ◌&&◌ (eq-eqb _ _ (header_at 1 (omega arith)))
+        (eq-eqb _ _ (header_at 5 (omega arith) ∙ sym blocks_in_are))
 
     used_at : used_of block ≡ used
     unfolding body_halfword
@@ -170,6 +171,7 @@ module _ (code : List ℕ) (w l : ℕ) where
         → check_of (image_of code w l) ≡ Valid (layout (2 * length code) w l)
     accepted fits =
         let said = layout (2 * length code) w l in
-        let blocks = all_passed (block_checks image) (blocks_in image) (λ k h. block_passes k (rw blocks_in_are at h)) in
+        let blocks = all_passed (block_checks image) (blocks_in image)
+        (λ k h. block_passes k (rw blocks_in_are at h)) in
         let last = ap (checked_as said) (passed_head _ [] fits ∙ empty) in
         sym (rest8 image passes2 _ said _ (sym blocks) refl (sym layout_again) (sym last))

@@ -13,7 +13,8 @@ use Rattle.refusals.specs.declared.refusal.Refusal.{Refusal}
 use Rattle.image.specs.Format.{block_bytes}
 use Rattle.image.specs.Block.{blocks_in, block_of}
 use Rattle.image.specs.Check.{layout_of, check_of}
-use Rattle.reader.specs.Reader.{is_left, block_at, given_as, given_of, bytes_of, after_of, answer_of, next_of, after_next}
+use Rattle.reader.specs.Reader.{is_left, block_at, given_as, given_of, bytes_of, after_of, answer_of, next_of}
+use Rattle.reader.specs.Reader.{after_next}
 use Rattle.image.specs.declared.checker.Layout.{Layout}
 use Rattle.image.specs.declared.checker.Checked.{Checked}
 use Rattle.image.specs.declared.checker.Checked.TheVariants.{Valid, Refused}

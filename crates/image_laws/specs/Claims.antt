@@ -23,7 +23,8 @@ layout c w l = record { code_bytes = c; window_start = w; window_length = l }
 abbrev pub PackThenCheck : Type 0
 PackThenCheck =
     (code : List ℕ) (w l : ℕ) (out : List ℕ) → pack_of code w l (length out) ≡ Done
-    → (check_of (output_of code w l out) ≡ Valid (layout (2 * length code) w l)) × (code_of (output_of code w l out) ≡ code)
+    → (check_of (output_of code w l out) ≡ Valid (layout (2 * length code) w l))
+    × (code_of (output_of code w l out) ≡ code)
 
 -- a file of bytes
 abbrev pub Bytes : List ℕ → Type 0

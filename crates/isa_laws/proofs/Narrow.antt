@@ -12,7 +12,8 @@ use Rattle.isa.specs.declared.instruction.Instruction.{Instruction}
 use Rattle.isa.specs.declared.instruction.Instruction.TheVariants.{MovImm, CmpImm, And, Eor, Asr, Tst, Neg, Cmp}
 use Rattle.isa.specs.declared.instruction.Instruction.TheVariants.{AddHigh, CmpHigh, MovHigh, Str, Ldr, Strb, Ldrb}
 use Rattle.isa.specs.declared.instruction.Instruction.TheVariants.{AddPc, Branch, Halt}
-use Rattle.isa.specs.Decode.{entry, only, decode_of, imm_of, imm_table, alu_of, alu_table, high_of, high_table, registers_table}
+use Rattle.isa.specs.Decode.{entry, only, decode_of, imm_of, imm_table, alu_of, alu_table, high_of, high_table}
+use Rattle.isa.specs.Decode.{registers_table}
 use Rattle.isa.specs.Decode.{memory_of, memory_table, branch_of, table}
 use lib.Dec.{eqb, ltb}
 use Rattle.isa.proofs.Table.{All, entry_keeps, only_keeps}

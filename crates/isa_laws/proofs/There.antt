@@ -131,7 +131,8 @@ imm_case i op rd imm o e = under i rd 8 _ (λ p. under i imm 256 _ (λ q. imm_th
 alu_case : (i : Instruction) (op rs rd : ℕ) → op < 16 → entry (alus rs rd) op ≡ Defined i → There i (alu_form op rs rd)
 alu_case i op rs rd o e = under i rs 8 _ (λ p. under i rd 8 _ (λ q. alu_there _ op rs rd refl o p q ∙ e))
 
-high_case : (i : Instruction) (op rs rd : ℕ) → op < 4 → entry (highs rs rd) op ≡ Defined i → There i (high_form op rs rd)
+high_case : (i : Instruction) (op rs rd : ℕ) → op < 4 → entry (highs rs rd) op ≡ Defined i
+    → There i (high_form op rs rd)
 high_case i op rs rd o e = under i rs 16 _ (λ p. under i rd 16 _ (λ q. high_there _ op rs rd refl o p q ∙ e))
 
 cmp_high_case : (rs rd : ℕ) → 7 < max rs rd → There (CmpHigh rs rd) (high_form 1 rs rd)

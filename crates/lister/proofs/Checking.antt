@@ -42,7 +42,8 @@ module _ (layout : Layout) (a : ByteAddress) {d e : Decoded} (is : d ≡ e) wher
       → r ≡ cond (stays_in_code layout t) 0 13 → r ≡ number_of layout a e
   defined_no t u j p =
       let q = sym is ∙ u in
-      p ∙ ap (λ (t : Target). cond (stays_in_code layout t) 0 13) (j ∙ ap (jump_at a) q) ∙ sym (ap (number_of layout a) q)
+      p ∙ ap (λ (t : Target). cond (stays_in_code layout t) 0 13) (j ∙ ap (jump_at a) q)
+      ∙ sym (ap (number_of layout a) q)
 
 -- what the number says is what the checks come to
 row_is : (layout : Layout) (a : ByteAddress) (d : Decoded)
@@ -61,7 +62,8 @@ answer_of a (suc n) fails = refl
 
 -- the instructions before instruction k have passed, and a number is what its own checks come to
 module _ (code : List ℕ) (k no h : ℕ) (layout : Layout) (a : ByteAddress)
-    (before : first_no (rows_below (checks_at code) k) ≡ Pass) (there : a ≡ address_of k) (lies : layout ≡ layout_for code)
+    (before : first_no (rows_below (checks_at code) k) ≡ Pass) (there : a ≡ address_of k)
+    (lies : layout ≡ layout_for code)
     (read : h ≡ get_or code k 0) (is : no ≡ number_of layout a (decode_of h)) where
   answer_is : answer_at a no ≡ first_no (checks_at code k)
   unfolding decoded_at

@@ -12,7 +12,8 @@ use Rattle.units.proofs.Every as Every
 use Rattle.units.specs.Address.{branch_target_of}
 use Rattle.units.specs.Field.{field, high_rs, high_rd}
 use Rattle.units.specs.declared.address.ByteAddress.{ByteAddress}
-use Rattle.isa.specs.Decode.{entry, only, halt_of, imm_table, imm_of, alu_table, alu_of, high_table, high_of, registers_table}
+use Rattle.isa.specs.Decode.{entry, only, halt_of, imm_table, imm_of, alu_table, alu_of, high_table, high_of}
+use Rattle.isa.specs.Decode.{registers_table}
 use Rattle.isa.specs.Decode.{registers_of, memory_of, add_pc_of, branch_of, table, decode_of}
 use Rattle.isa.specs.declared.decoder.Decoded.{Decoded}
 use Rattle.isa.specs.declared.decoder.Decoded.TheVariants.{Defined, Undefined}
@@ -81,7 +82,8 @@ label_sum t a e = omega (arith, ap length (label_is t a e), length-append (decim
 branch_name : (c : ℕ) → c < 14 → four_letters (get_or branch_names c 0) ≡ code "B" ∷ (condition_word c ++ quoted " ")
 branch_name c h =
     same_text _ _ (Every.at
-    (λ k. is_same_text (four_letters (get_or branch_names k 0)) (code "B" ∷ (condition_word k ++ quoted " "))) 14 tt c h)
+    (λ k. is_same_text (four_letters (get_or branch_names k 0)) (code "B" ∷ (condition_word k ++ quoted " "))) 14 tt c
+    h)
 
 branch_some : (c : ℕ) → c < 14 → get_or branch_names c 0 ≡ 0 → ⊥
 branch_some c h e =
@@ -203,7 +205,8 @@ module _ (a : ByteAddress) (h : ℕ) where
   module _ (rd rb n : ℕ) (low : rd < 8) (base : rb < 8) where
     transfer_line : (s gap : Text) (i : Instruction) → length gap + length (decimal n) ≤ 3 → jump_of a i ≡ Nowhere
         → instruction_line a (Defined i)
-        ≡ (s ++ (register_word rd ++ (quoted ", [" ++ (register_word rb ++ (quoted ", #" ++ (decimal n ++ quoted "]"))))))
+        ≡ (s ++ (register_word rd ++ (quoted ", [" ++
+        (register_word rb ++ (quoted ", #" ++ (decimal n ++ quoted "]"))))))
         ++ end
         → s ++ transfer_text rd rb n ≡ named_line (mnemonic i) (gap ++ transfer_text rd rb n)
         → Line a (gap ++ transfer_text rd rb n) (Defined i)

@@ -60,14 +60,16 @@ module _ (code marks : List ℕ) (is : Labelled code marks) (k : ℕ) (inside : 
       rw add-one (omega (arith, listing_more code k))
 
   pub measured_small : (n r : ℕ) → n ≡ length (listing_below code k)
-      → r ≡ length (lines_with (marked_at marks k) (address_of k) (decode_of (get_or code k 0))) → n + r ≤ 27 * most_code
+      → r ≡ length (lines_with (marked_at marks k) (address_of k) (decode_of (get_or code k 0)))
+      → n + r ≤ 27 * most_code
   measured_small n r e f =
       omega (arith, measured_more n r e f, listing_most code (k + 1), number_small)
 
   -- it is written behind the listing so far
   module _ (out : Text) (room : length (listing_of code) ≤ length out) (at : ℕ) (now : Text)
       (e : at ≡ length (listing_below code k)) (f : now ≡ written 0 (listing_below code k) out) where
-    pub lines_fit : at + length (lines_with (marked_at marks k) (address_of k) (decode_of (get_or code k 0))) ≤ length now
+    pub lines_fit : at + length (lines_with (marked_at marks k) (address_of k) (decode_of (get_or code k 0))) ≤ length
+        now
     lines_fit =
         let long : length now ≡ length out = ap length f ∙ written_length 0 (listing_below code k) out in
         let all : at + length (lines_with (marked_at marks k) (address_of k) (decode_of (get_or code k 0)))

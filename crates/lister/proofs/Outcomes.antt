@@ -57,7 +57,8 @@ module _ (code : List ℕ) (size : ℕ) where
   -- 9 and 13 of each instruction
   module _ (t : Bool) (is : t ≡ check15 code) (held : not t ≡ false) (a : Answer)
       (came : a ≡ first_no (rows_below (checks_at code) (length code))) where
-    then_rows : list_of code size ≡ listing_as (listing_of code) (or_else a (first_no (whole 16 (check16 code size) ∷ [])))
+    then_rows : list_of code size ≡ listing_as (listing_of code)
+        (or_else a (first_no (whole 16 (check16 code size) ∷ [])))
     unfolding list_of
     then_rows =
         ap (listing_as (listing_of code))

@@ -3,7 +3,8 @@
 // they go by the top three bits, then by the operation of the format: to decode
 // first, and then to ask which instruction it is, takes half as long again.
 ghost use Rattle.std.specs.Prelude.{◌≡◌, get_or};
-ghost use Rattle.isa.specs.Decode.{decode_of, halt_of, imm_of, registers_of, alu_of, high_of, memory_of, add_pc_of, branch_of};
+ghost use Rattle.isa.specs.Decode.{decode_of, halt_of, imm_of, registers_of, alu_of, high_of, memory_of, add_pc_of};
+ghost use Rattle.isa.specs.Decode.{branch_of};
 ghost use Rattle.lister.specs.Lines.{branch_names, name_in};
 
 use units::bits;

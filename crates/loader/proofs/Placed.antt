@@ -75,7 +75,8 @@ module _ (file memory : List ℕ) where
       go (no n) rest =
           rw (more i fits) (apart (with_code file i memory) i (code_at file i) a n ∙ rest (omega arith))
 
-  pub code_past : (n a : ℕ) → 2 * n ≤ memory_bytes → 2 * n ≤ a → get_or (with_code file n memory) a 0 ≡ get_or memory a 0
+  pub code_past : (n a : ℕ) → 2 * n ≤ memory_bytes → 2 * n ≤ a → get_or (with_code file n memory) a 0
+      ≡ get_or memory a 0
   unfolding with_code
   code_past zero a fits h = refl
   code_past (suc i) a fits h =

@@ -18,7 +18,8 @@ fn in_block(left: usize) -> usize
 // Copies the first `n` instructions of block `k` to where they go. They lie in
 // one row, in the file and in memory, which the compiler copies many at a time.
 fn copy_block(file: &[u8], memory: &mut [u8], k: usize, n: usize)
-    requires n_le_block_code { (n ≤ block_code) × (2 * (block_code * k + n) ≤ memory_bytes) × (length memory.old ≡ memory_bytes) }
+    requires n_le_block_code { (n ≤ block_code) × (2 * (block_code * k + n) ≤ memory_bytes)
+        × (length memory.old ≡ memory_bytes) }
     requires by_index { (i : ℕ) → i < block_code * k + n → code_position i + 2 ≤ length file.now }
     ensures { memory.new ≡ with_block file.now k n memory.old }
 {

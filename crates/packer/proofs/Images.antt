@@ -1,5 +1,6 @@
 -- The image of a code, byte by byte.
-use Rattle.std.proofs.Common.{◌≡◌, ℕ, ◌+◌, ◌-◌, ◌*◌, ◌/◌, ◌%◌, ◌<◌, ◌≤◌, List, length, get_or, take, sym, refl, ap, ◌∙◌, ap₂, add-one, arith, le-ltb, lt-ltb}
+use Rattle.std.proofs.Common.{◌≡◌, ℕ, ◌+◌, ◌-◌, ◌*◌, ◌/◌, ◌%◌, ◌<◌, ◌≤◌, List, length, get_or, take, sym, refl, ap}
+use Rattle.std.proofs.Common.{◌∙◌, ap₂, add-one, arith, le-ltb, lt-ltb}
 use lib.ListN.{get_or-eq_default}
 use Rattle.units.specs.Bytes.{byte_of, with_halfword}
 use Rattle.units.specs.Address.{wrap}

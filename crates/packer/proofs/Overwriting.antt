@@ -1,5 +1,6 @@
 -- A list that is overwritten from the front.
-use Rattle.std.proofs.Common.{◌≡◌, ℕ, suc, ◌+◌, ◌<◌, ◌≤◌, List, [], ◌∷◌, ◌++◌, length, get_or, take, set, sym, ap, ◌∙◌, add-one, arith, length-set, take_all, take-suc, take-suc-set}
+use Rattle.std.proofs.Common.{◌≡◌, ℕ, suc, ◌+◌, ◌<◌, ◌≤◌, List, [], ◌∷◌, ◌++◌, length, get_or, take, set, sym, ap}
+use Rattle.std.proofs.Common.{◌∙◌, add-one, arith, length-set, take_all, take-suc, take-suc-set}
 
 -- a list that has the same start as another, and then its next element
 one_more : (out image : List ℕ) (p v : ℕ) → take p out ≡ take p image → p < length out → p < length image
@@ -11,7 +12,8 @@ one_more out image p v e ho hi q =
     ∙ sym (take-suc image p 0 hi)
 
 pub two_more : (out image : List ℕ) (p a b : ℕ) → take p out ≡ take p image → p + 2 ≤ length out → p + 2 ≤ length image
-    → a ≡ get_or image p 0 → b ≡ get_or image (p + 1) 0 → take (p + 2) (set (set out p a) (p + 1) b) ≡ take (p + 2) image
+    → a ≡ get_or image p 0 → b ≡ get_or image (p + 1) 0 → take (p + 2) (set (set out p a) (p + 1) b)
+    ≡ take (p + 2) image
 two_more out image p a b e ho hi qa qb =
     let two : p + 2 ≡ suc (p + 1) = omega arith in
     let first : take (p + 1) (set out p a) ≡ take (p + 1) image =

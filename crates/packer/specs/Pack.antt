@@ -1,6 +1,7 @@
 -- The image of a code and its window ("Image blocks", the table), and the packer's checks 15, 8 and 16
 -- ("The questions").
-use Rattle.std.specs.Prelude.{ℕ, ◌+◌, ◌-◌, ◌*◌, ◌/◌, ◌%◌, min, Bool, cond, ◌&&◌, List, [], ◌∷◌, length, ◌==◌, nat_le, nat_lt, slice_index}
+use Rattle.std.specs.Prelude.{ℕ, ◌+◌, ◌-◌, ◌*◌, ◌/◌, ◌%◌, min, Bool, cond, ◌&&◌, List, [], ◌∷◌, length, ◌==◌, nat_le}
+use Rattle.std.specs.Prelude.{nat_lt, slice_index}
 use Rattle.units.specs.Bytes.{byte_of}
 use Rattle.units.specs.Address.{wrap}
 use Rattle.sums.specs.Sum.{sum_below}

@@ -19,7 +19,8 @@ use Rattle.image.specs.declared.checker.Layout.{Layout}
 use Rattle.verifier.specs.Verify.{verify_of}
 use Rattle.verifier.specs.declared.verifier.Verdict.{Verdict}
 use Rattle.verifier.specs.declared.verifier.Verdict.TheVariants as verdict
-use Rattle.loader.specs.Load.{code_byte, in_window, loaded_byte_of, loaded_memory, loaded_as, load_of, memory_as, memory_after_load}
+use Rattle.loader.specs.Load.{code_byte, in_window, loaded_byte_of, loaded_memory, loaded_as, load_of, memory_as}
+use Rattle.loader.specs.Load.{memory_after_load}
 use Rattle.loader.specs.declared.loader.Loaded.{Loaded}
 use Rattle.loader.specs.declared.loader.Loaded.TheVariants.{Done, Refused}
 use Rattle.safety.specs.Safety.{HoldsCode}
@@ -74,7 +75,8 @@ module _ (file memory : List ℕ) (file-bytes : (a : ℕ) → byte_at file a < 2
   unfolding code_byte
   loaded_byte a = go (ltb a layout.code_bytes) (in_window layout a)
     where
-      go : (t u : Bool) → cond t (byte_of (get_or (code_of file) (a / 2) 0) (a % 2)) (cond u 0 (get_or memory a 0)) < 256
+      go : (t u : Bool) → cond t (byte_of (get_or (code_of file) (a / 2) 0) (a % 2)) (cond u 0 (get_or memory a 0)) <
+          256
       go true u = half_byte (get_or (code_of file) (a / 2) 0) (a % 2) (code_word file file-bytes (a / 2))
       go false true = omega arith
       go false false = memory-bytes a

@@ -42,7 +42,10 @@ pub record Moved (s : State) (regs : List ℕ) (at : ℕ) : Type 0 where
   pub pc : get_or regs 15 0 ≡ at
 
 pub jumped : (s : State) (regs : List ℕ) (x : ℕ) → Registers regs → HoldsBelow 15 s regs → Moved s (set regs 15 x) x
-jumped s regs x hr h = record { holds = pc_holds s regs x h; pc = get_or-set_same regs 15 x 0 (omega (arith, hr.count)) }
+jumped s regs x hr h = record {
+  holds = pc_holds s regs x h;
+  pc = get_or-set_same regs 15 x 0 (omega (arith, hr.count));
+}
 
 pub on : (s : State) (regs : List ℕ) → Registers regs → HoldsBelow 15 s regs
     → Moved s (advanced regs) (wrap (get_or regs 15 0 + 2))

@@ -32,7 +32,8 @@ use Rattle.alu.specs.Flags.{Flags}
 use Rattle.cpu.specs.Machine.{reg, pc, flags, updated, advanced, written}
 use Rattle.alu.specs.Alu.{negative, shift_of, condition_of}
 use Rattle.cpu.specs.Step.{StepResult, completed, effective_address, execute_of, add_high_of, add_pc_of, and_of, asr_of}
-use Rattle.cpu.specs.Step.{branch_of, cmp_imm_of, cmp_of, cmp_high_of, eor_of, ldr_of, ldrb_of, mov_imm_of, mov_high_of, neg_of}
+use Rattle.cpu.specs.Step.{branch_of, cmp_imm_of, cmp_of, cmp_high_of, eor_of, ldr_of, ldrb_of, mov_imm_of}
+use Rattle.cpu.specs.Step.{mov_high_of, neg_of}
 use Rattle.cpu.specs.Step.{str_of, strb_of, tst_of}
 use Rattle.cpu_laws.specs.Sizes.{Registers, Bytes}
 use Rattle.cpu.specs.Traffic.{data_address}
@@ -139,8 +140,10 @@ module _ (s : State) (m : Machine) (memory : List ℕ) (long : length s ≡ 16)
 
   -- where check 12 has passed and the data are aligned
   pub step_case : (i : Instruction) → Narrow i → check12 i ≡ true
-      → ((access_of i).size ≡ 2 → data_address m (access_of i) % 4 ≡ 0) → IsHalt i ⊎ Completes s i m (execute_of i m memory)
-  unfolding execute_of mov_imm_of cmp_imm_of and_of eor_of asr_of tst_of neg_of cmp_of add_high_of cmp_high_of mov_high_of str_of ldr_of
+      → ((access_of i).size ≡ 2 → data_address m (access_of i) % 4 ≡ 0) → IsHalt i
+      ⊎ Completes s i m (execute_of i m memory)
+  unfolding execute_of mov_imm_of cmp_imm_of and_of eor_of asr_of tst_of neg_of cmp_of add_high_of cmp_high_of
+      mov_high_of str_of ldr_of
       strb_of ldrb_of add_pc_of branch_of
   step_case (MovImm rd imm) h k a = writes rd imm _ _ (omega arith) (exactly_sound imm (omega arith)) refl
   step_case (CmpImm rd imm) h k a = passes _ memory refl

@@ -47,7 +47,8 @@ one_is_step m memory = go (eqb (length memory) memory_bytes) refl
     go false e = simp e (wrong m memory e)
 
 pub stepped : (m m' : Machine) (memory memory' : List ℕ) (outcome : RunOutcome) (count : ℕ)
-    → run_result m' memory' outcome count ≡ run_of 1 m memory → step_result m' memory' (as_step outcome) ≡ step_of m memory
+    → run_result m' memory' outcome count ≡ run_of 1 m memory → step_result m' memory' (as_step outcome)
+    ≡ step_of m memory
 stepped m m' memory memory' outcome count ran = ap as_step_result ran ∙ one_is_step m memory
 
 -- and tells what the step tells: no data where it didn't complete

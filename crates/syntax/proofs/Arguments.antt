@@ -111,7 +111,8 @@ module _ (t : Text) (at row a : ℕ) (h : at ≤ length t) where
       fit_or row (low_only a (fit_at (ended (quoted "#n")) at (drop at t)))
       (any_pair row a (fit_at (ended (quoted "h")) at (drop at t)))
 
-  pub no_number : (get_or t at 0 ≡ 35 → ⊥) → (r : Parsed) → r ≡ any_pair row a (fit_at (ended (quoted "h")) at (drop at t))
+  pub no_number : (get_or t at 0 ≡ 35 → ⊥) → (r : Parsed) → r
+      ≡ any_pair row a (fit_at (ended (quoted "h")) at (drop at t))
       → r ≡ number_or_pair
   no_number n r e =
       e ∙ ap (λ (f : Fit). fit_or row f (any_pair row a (fit_at (ended (quoted "h")) at (drop at t))))
@@ -441,11 +442,13 @@ module _ (t : Text) (at v stop row : ℕ) (s : Register t at v stop) where
           go : (b : Bool) → eqb row 1 ≡ b
               → fit_or row (low_only v (second (ended (quoted "#n"))))
               (cond b (line_fit 11 (behind v (second (ended (quoted "h")))))
-              (fit_or 8 (low_only v (second (ended (quoted "r")))) (line_fit 10 (behind v (second (ended (quoted "h")))))))
+              (fit_or 8 (low_only v (second (ended (quoted "r"))))
+              (line_fit 10 (behind v (second (ended (quoted "h")))))))
               ≡ fit_or row (low_only v (second (ended (quoted "#n")))) (any_pair row v (second (ended (quoted "h"))))
           go true q =
               ap (fit_or row (low_only v (second (ended (quoted "#n")))))
-              (sym (any_one v (second (ended (quoted "h")))) ∙ ap (λ (k : ℕ). any_pair k v (second (ended (quoted "h"))))
+              (sym (any_one v (second (ended (quoted "h"))))
+              ∙ ap (λ (k : ℕ). any_pair k v (second (ended (quoted "h"))))
               (sym (eqb-true row 1 q)))
           go false q =
               let two : row ≡ 2 = omega (arith, eqb-false row 1 q) in

@@ -169,7 +169,8 @@ module _ (t : Text) (at x y : ℕ) (h : at ≤ length t) (p : x ≡ get_or t at 
       (λ c u f g. condition_long (x ∷ y ∷ c ∷ word u) (λ z. omega arith)))
 
   -- the word at the place, by its letters
-  no_word : (u : Text) → letters_value (get_or u 0 0 * 256 + get_or u 1 0) ≡ none → get_or u 0 0 < 256 → get_or u 1 0 < 256
+  no_word : (u : Text) → letters_value (get_or u 0 0 * 256 + get_or u 1 0) ≡ none → get_or u 0 0 < 256
+      → get_or u 1 0 < 256
       → condition_value (word u) ≡ none
   unfolding word
   no_word [] e m n = condition_long [] (λ z. omega arith)
@@ -189,7 +190,8 @@ module _ (t : Text) (at x y : ℕ) (h : at ≤ length t) (p : x ≡ get_or t at 
   pub condition_missing : Nothing ≡ slot_as (letters_value (x * 256 + y)) → Spotted 99 t at 0 at
   unfolding slot_value
   condition_missing e =
-      let first : get_or (drop at t) 0 0 ≡ x = get_or-drop at t 0 0 ∙ ap (λ (i : ℕ). get_or t i 0) (omega arith) ∙ sym p in
+      let first : get_or (drop at t) 0 0 ≡ x = get_or-drop at t 0 0 ∙ ap (λ (i : ℕ). get_or t i 0) (omega arith)
+      ∙ sym p in
       let second : get_or (drop at t) 1 0 ≡ y = get_or-drop at t 1 0 ∙ sym q in
       spotted_none 99 refl t at 0 h
       (no_word (drop at t)

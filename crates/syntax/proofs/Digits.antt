@@ -65,7 +65,8 @@ digits_start t at first h l = record {
 }
 
 pub digits_more : (t : Text) (at first value i : ℕ) → Digits t at first value i → i < length t
-    → is_digit (get_or t i 0) ≡ true → (next : ℕ) → next ≡ with_digit value (get_or t i 0) → Digits t at first next (i + 1)
+    → is_digit (get_or t i 0) ≡ true → (next : ℕ) → next ≡ with_digit value (get_or t i 0)
+    → Digits t at first next (i + 1)
 digits_more t at first value i s h e next q =
     let c = get_or t i 0 in
     let long = length-append s.read (c ∷ []) in

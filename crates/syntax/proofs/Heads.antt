@@ -179,7 +179,8 @@ module _ (t : Text) (i name a b c d : ℕ) (f : Four t i name) (h : plain a ≡ 
           byte_goes b (c ∷ d ∷ p) t (i + 1) (plain_literal b j) (plain_some b j) e
           ∙ ap (λ (y : ℕ). fit_at (c ∷ d ∷ p) y (drop y t)) n
 
-      three : get_or t (i + 2) 0 ≡ c → fit_at (c ∷ d ∷ p) (i + 2) (drop (i + 2) t) ≡ fit_at (d ∷ p) (i + 3) (drop (i + 3) t)
+      three : get_or t (i + 2) 0 ≡ c → fit_at (c ∷ d ∷ p) (i + 2) (drop (i + 2) t)
+          ≡ fit_at (d ∷ p) (i + 3) (drop (i + 3) t)
       three e =
           byte_goes c (d ∷ p) t (i + 2) (plain_literal c k) (plain_some c k) e
           ∙ ap (λ (y : ℕ). fit_at (d ∷ p) y (drop y t)) o
@@ -275,7 +276,8 @@ module _ (t : Text) (at : ℕ) where
   branch_row u = refl
 
   pub by_branch : get_or t at 0 ≡ 66 → (r : Parsed)
-      → r ≡ line_fit 17 (fit_at (ended (quoted "c l")) (at + 1) (drop (at + 1) t)) → r ≡ parsed_at at (lines_of (drop at t))
+      → r ≡ line_fit 17 (fit_at (ended (quoted "c l")) (at + 1) (drop (at + 1) t)) → r
+      ≡ parsed_at at (lines_of (drop at t))
   by_branch e r q =
       q ∙ sym (branch_row (drop (at + 1) t))
       ∙ ap (first_fit 0 patterns at) (sym (rest t at (byte_inside t at 66 (omega arith) e)
@@ -296,9 +298,12 @@ name_number t = four_of (get_or t 0 0) (get_or t 1 0) (get_or t 2 0) (get_or t 3
 
 abbrev names : List ℕ
 names =
-    name_number (quoted "MOV ") ∷ name_number (quoted "CMP ") ∷ name_number (quoted "AND ") ∷ name_number (quoted "EOR ")
-    ∷ name_number (quoted "ASR ") ∷ name_number (quoted "TST ") ∷ name_number (quoted "NEG ") ∷ name_number (quoted "ADD ")
-    ∷ name_number (quoted "STR ") ∷ name_number (quoted "LDR ") ∷ name_number (quoted "STRB") ∷ name_number (quoted "LDRB")
+    name_number (quoted "MOV ") ∷ name_number (quoted "CMP ") ∷ name_number (quoted "AND ") ∷ name_number
+    (quoted "EOR ")
+    ∷ name_number (quoted "ASR ") ∷ name_number (quoted "TST ") ∷ name_number (quoted "NEG ") ∷ name_number
+    (quoted "ADD ")
+    ∷ name_number (quoted "STR ") ∷ name_number (quoted "LDR ") ∷ name_number (quoted "STRB") ∷ name_number
+    (quoted "LDRB")
     ∷ name_number (quoted "HALT") ∷ []
 
 -- what the last arm is told: the number is none of them

@@ -10,7 +10,8 @@ use lib.Dec.{leb}
 use lib.ListN.{length, get_or, drop, drop_of_length-le, length-append, get_or-eq_default}
 use borrow.Author.Tests.{le-leb, lt-leb, leb-true}
 use Rattle.units.proofs.Cases.{lt_or_ge}
-use Rattle.text.specs.Text.{Text, is_digit, is_capital, is_small, in_word, in_name, every, word, digits_after, is_name, name_of}
+use Rattle.text.specs.Text.{Text, is_digit, is_capital, is_small, in_word, in_name, every, word, digits_after}
+use Rattle.text.specs.Text.{is_name, name_of}
 use Rattle.text.proofs.Naming.{byte_fits, byte_more}
 use Rattle.text.proofs.Scans.{rest}
 use Rattle.text.proofs.Words.{and_left, every_append, every_weak}

@@ -121,7 +121,8 @@ module _ (t : Text) (at : ℕ) where
   pub register_other : at ≤ length t → (get_or t at 0 ≡ 82 → ⊥) → Register t at 0 at
   register_other h n = none_both h (λ k. no_letter k n)
 
-  pub register_no_digit : at ≤ length t → get_or t at 0 ≡ 82 → is_digit (get_or t (at + 1) 0) ≡ false → Register t at 0 at
+  pub register_no_digit : at ≤ length t → get_or t at 0 ≡ 82 → is_digit (get_or t (at + 1) 0) ≡ false
+      → Register t at 0 at
   register_no_digit h e n = none_both h (λ k. no_digit k e n)
 
 -- what follows the first digits of a text that has them behind an R

@@ -162,7 +162,8 @@ module _ (row : ℕ) (t : Text) (i : ℕ) where
       go false = refl
 
   pub end_three : (a b c : ℕ)
-      → line_end row a b c (fit_at (feed ∷ []) i t) ≡ line_fit row (behind a (behind b (behind c (fit_at (feed ∷ []) i t))))
+      → line_end row a b c (fit_at (feed ∷ []) i t)
+      ≡ line_fit row (behind a (behind b (behind c (fit_at (feed ∷ []) i t))))
   unfolding fit_at
   end_three a b c = go (starts_with feed t)
     where

@@ -5,7 +5,8 @@ use Prim.Native.Nat.{ℕ, ◌%◌}
 use Rattle.units.specs.Bytes.{byte_of}
 use Rattle.isa.specs.Decode.{decode_of}
 use Rattle.cpu.specs.declared.machine.Machine.{Machine}
-use Rattle.cpu.specs.Step.{completed, execute_of, execute_decoded, fetched, step_of, add_high_of, add_pc_of, asr_of, cmp_imm_of}
+use Rattle.cpu.specs.Step.{completed, execute_of, execute_decoded, fetched, step_of, add_high_of, add_pc_of, asr_of}
+use Rattle.cpu.specs.Step.{cmp_imm_of}
 use Rattle.cpu.specs.Step.{neg_of}
 use Rattle.cpu_laws.proofs.Steps.{step_decoded}
 use Rattle.cpu.specs.Machine.{pc}
@@ -33,9 +34,12 @@ gives : (h : ℕ) (before after : Machine) → pc before % 2 ≡ 0
 gives h before after even done memory on = step_on h before memory even on ∙ done memory
 
 pub starred_rows : StarredRows
-unfolding execute_of add_high_of add_pc_of asr_of cmp_imm_of neg_of block_of sum_below first_no check2 check3 check4 check5
-    unused_zero check6 check7 check8 rows_below layout_of check_of code_at code_length code_of tabulate_from body_halfword
-    balance_of image_halfword byte_of image_of interval_of add_of and_of eor_of decoded_at goes_to targeted_below targeted entering
+unfolding execute_of add_high_of add_pc_of asr_of cmp_imm_of neg_of block_of sum_below first_no check2 check3 check4
+    check5
+    unused_zero check6 check7 check8 rows_below layout_of check_of code_at code_length code_of tabulate_from
+    body_halfword
+    balance_of image_halfword byte_of image_of interval_of add_of and_of eor_of decoded_at goes_to targeted_below
+    targeted entering
     verify_code verify_of count_leading_zeros count_trailing_zeros
 starred_rows =
     record {

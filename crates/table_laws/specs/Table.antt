@@ -33,11 +33,13 @@ Gives h before after = (memory : List ℕ) → StandsOn h before memory → step
 
 -- what a step on h does, whatever the machine
 abbrev pub Does : ℕ → (Machine → List ℕ → StepResult) → Type 0
-Does h result = (m : Machine) (memory : List ℕ) → pc m % 2 ≡ 0 → StandsOn h m memory → step_of m memory ≡ result m memory
+Does h result = (m : Machine) (memory : List ℕ) → pc m % 2 ≡ 0 → StandsOn h m memory → step_of m memory
+    ≡ result m memory
 
 -- h is HALT with a note (Change 1), and a step on it sets that and changes nothing else
 abbrev pub HaltsWith : ℕ → ℕ → Type 0
-HaltsWith h note = (decode_of h ≡ Defined (Halt note)) × Does h (λ m memory. step_result (with_note note m) memory Halted)
+HaltsWith h note = (decode_of h ≡ Defined (Halt note))
+    × Does h (λ m memory. step_result (with_note note m) memory Halted)
 
 -- h is no instruction, and a step on it is stop 19, which changes nothing
 abbrev pub NoInstruction : ℕ → Type 0

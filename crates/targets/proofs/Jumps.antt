@@ -8,7 +8,8 @@ use borrow.Author.Tests.{eqb-true, ltb-true, lt-ltb}
 use lib.Dec.{eqb, ltb}
 use Rattle.units.specs.Field.{field, high_rs, high_rd}
 use Rattle.units.specs.declared.address.ByteAddress.{ByteAddress}
-use Rattle.isa.specs.Decode.{entry, only, imm_table, alu_table, alu_of, high_table, high_of, registers_table, memory_table}
+use Rattle.isa.specs.Decode.{entry, only, imm_table, alu_table, alu_of, high_table, high_of, registers_table}
+use Rattle.isa.specs.Decode.{memory_table}
 use Rattle.isa.specs.Decode.{branch_of, table, decode_of}
 use Rattle.isa.specs.declared.decoder.Decoded.{Decoded}
 use Rattle.isa.specs.declared.decoder.Decoded.TheVariants.{Defined}

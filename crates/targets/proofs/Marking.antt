@@ -21,26 +21,27 @@ use Rattle.targets.specs.Marks.{MarkedTo, MarkedBelow}
 pub stay : {jump : Target} {marks : List ℕ} → length marks ≡ mark_words → jump ≡ Nowhere → MarkedTo jump marks marks
 stay w e = record { words = w; marked = λ j l. rw e refl }
 
-module _ {jump : Target} {a : ByteAddress} {k : InstructionIndex} (e : jump ≡ To a) (q : k ≡ instruction_index_of a) where
-  lands : (j : ℕ) → lands_on jump j ≡ eqb k.0 j
-  lands j = ap (λ (t : Target). lands_on t j) e ∙ ap (λ (x : InstructionIndex). eqb x.0 j) (sym q)
+module _ {jump : Target} {a : ByteAddress} {k : InstructionIndex} (e : jump ≡ To a) (q : k ≡ instruction_index_of a)
+  where
+    lands : (j : ℕ) → lands_on jump j ≡ eqb k.0 j
+    lands j = ap (λ (t : Target). lands_on t j) e ∙ ap (λ (x : InstructionIndex). eqb x.0 j) (sym q)
 
-  -- or where it is past every code
-  pub past : {marks : List ℕ} → length marks ≡ mark_words → 64 * mark_words ≤ k.0 → MarkedTo jump marks marks
-  past {marks} w far =
-      record {
-        words = w;
-        marked =
-            λ j l. sym (ap (λ (t : Bool). t || marked_at marks j)
-            (lands j ∙ ne_eqb k.0 j (λ (p : k.0 ≡ j). omega arith)));
-      }
+    -- or where it is past every code
+    pub past : {marks : List ℕ} → length marks ≡ mark_words → 64 * mark_words ≤ k.0 → MarkedTo jump marks marks
+    past {marks} w far =
+        record {
+          words = w;
+          marked =
+              λ j l. sym (ap (λ (t : Bool). t || marked_at marks j)
+              (lands j ∙ ne_eqb k.0 j (λ (p : k.0 ≡ j). omega arith)));
+        }
 
-  -- else the place that is reached is marked
-  pub mark : {before after : List ℕ} → (length after ≡ mark_words)
-      × ((j : ℕ) → marked_at after j ≡ (eqb k.0 j || marked_at before j))
-      → MarkedTo jump before after
-  mark {before} set =
-      record { words = set.0; marked = λ j l. set.1 j ∙ sym (ap (λ (t : Bool). t || marked_at before j) (lands j)) }
+    -- else the place that is reached is marked
+    pub mark : {before after : List ℕ} → (length after ≡ mark_words)
+        × ((j : ℕ) → marked_at after j ≡ (eqb k.0 j || marked_at before j))
+        → MarkedTo jump before after
+    mark {before} set =
+        record { words = set.0; marked = λ j l. set.1 j ∙ sym (ap (λ (t : Bool). t || marked_at before j) (lands j)) }
 
 -- the marks of one more instruction, whose halfword is h
 pub mark_next : {code : List ℕ} {n h : ℕ} {before after : List ℕ} → h ≡ get_or code n 0

@@ -8,14 +8,14 @@ use Rattle.text.specs.Text.{Text, feed, line_length}
 use Rattle.text.proofs.Scans.{rest, drop_end}
 
 module _ (t : Text) (i : ℕ) (h : i < length t) where
-  pub line_stops : get_or t i 0 ≡ feed → line_length (drop i t) ≡ 0
+  pub stops : get_or t i 0 ≡ feed → line_length (drop i t) ≡ 0
   unfolding line_length
-  line_stops e = rw (rest t i h, eq-eqb (get_or t i 0) feed e)
+  stops e = rw (rest t i h, eq-eqb (get_or t i 0) feed e)
 
-  pub line_goes_on : (get_or t i 0 ≡ feed → ⊥) → line_length (drop i t) ≡ 1 + line_length (drop (i + 1) t)
+  pub goes_on : (get_or t i 0 ≡ feed → ⊥) → line_length (drop i t) ≡ 1 + line_length (drop (i + 1) t)
   unfolding line_length
-  line_goes_on e = rw (rest t i h, ne_eqb (get_or t i 0) feed e) (omega arith)
+  goes_on e = rw (rest t i h, ne_eqb (get_or t i 0) feed e) (omega arith)
 
-pub line_over : (t : Text) (i : ℕ) → i ≡ length t → line_length (drop i t) ≡ 0
+pub over : (t : Text) (i : ℕ) → i ≡ length t → line_length (drop i t) ≡ 0
 unfolding line_length
-line_over t i e = rw (drop_end t i e)
+over t i e = rw (drop_end t i e)

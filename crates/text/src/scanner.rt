@@ -10,7 +10,7 @@ pub fn byte_at(text: &[u8], at: usize) -> u8
 }
 
 // Where the line that starts at a place ends: at its line feed, or with the text.
-#[tactic(auto, using(crate::proofs::Feeds::line_stops, crate::proofs::Feeds::line_goes_on, crate::proofs::Feeds::line_over))]
+#[tactic(auto, using(crate::proofs::Feeds::stops, crate::proofs::Feeds::goes_on, crate::proofs::Feeds::over))]
 pub fn line_end(text: &[u8], at: usize) -> usize
     requires { at ≤ length text.now }
     ensures { (result ≡ at + line_length (drop at text.now)) × (result ≤ length text.now)

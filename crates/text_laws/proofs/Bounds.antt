@@ -23,7 +23,8 @@ use Rattle.isa.specs.Encode as Encode
 use Rattle.text.specs.Text.{Text, is_small, is_same_text}
 use Rattle.text.proofs.Words.{and_right}
 use Rattle.syntax.specs.Syntax.{Pattern, Item, LineOf, end, literal, slot, patterns, pattern_at, parse, given, below}
-use Rattle.syntax.specs.Syntax.{number_value, register_value, conditions, place, condition_value, name_value, slot_value}
+use Rattle.syntax.specs.Syntax.{number_value, register_value, conditions, place, condition_value, name_value}
+use Rattle.syntax.specs.Syntax.{slot_value}
 use Rattle.syntax.proofs.Rows.{never}
 use Rattle.assembler.specs.Assemble.{value_at, in_fours, in_reach, branch_byte, rows, instruction_of}
 use Rattle.text_laws.proofs.Lines.{syntax_exact}
@@ -49,7 +50,8 @@ register_less count v (c ∷ w) e = go (eqb c (code "R")) e
     go false e = never e
 
 -- a register below the count is one of a smaller count too, if it is below that
-register_too : (count less v : ℕ) (w : Text) → register_value count w ≡ some v → v < less → register_value less w ≡ some v
+register_too : (count less v : ℕ) (w : Text) → register_value count w ≡ some v → v < less → register_value less w
+    ≡ some v
 unfolding register_value
 register_too count less v [] e h = never e
 register_too count less v (c ∷ w) e h = go (eqb c (code "R")) e
@@ -203,7 +205,8 @@ memory_encodes op offset rb rd a b c = fits offset 32 _ a (fits rb 8 _ b (fits r
 there : (x y : Instruction) → Encodes (encode_of x) → some x ≡ some y → Encodes (encode_of y)
 there x y w e = subst (λ (z : Instruction). Encodes (encode_of z)) (some-injective x y e) w
 
-tested : (b : Bool) (x y : Instruction) → (b ≡ true → Encodes (encode_of x)) → given b x ≡ some y → Encodes (encode_of y)
+tested : (b : Bool) (x y : Instruction) → (b ≡ true → Encodes (encode_of x)) → given b x ≡ some y
+    → Encodes (encode_of y)
 tested true x y f e = there x y (f refl) e
 tested false x y f e = never e
 

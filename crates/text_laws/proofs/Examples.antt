@@ -3,7 +3,8 @@ use mathlib.Core.Path.{refl}
 use Rattle.image.specs.Check.{first_no, rows_below}
 use Rattle.targets.specs.Targets.{decoded_at, goes_to, targeted_below, targeted}
 use Rattle.text.specs.Text.{word, after_word, digits_after, is_number, number_of, is_name, name_of, lines_of}
-use Rattle.syntax.specs.Syntax.{number_value, register_value, condition_value, name_value, slot_value, values_of, parse_from}
+use Rattle.syntax.specs.Syntax.{number_value, register_value, condition_value, name_value, slot_value, values_of}
+use Rattle.syntax.specs.Syntax.{parse_from}
 use Rattle.syntax.specs.Syntax.{parse, slot_word, fill}
 use Rattle.assembler.specs.Assemble.{read_from, definition_from, said_at, check_from, assemble_of}
 use Rattle.lister.specs.List.{lines_at, listing_below, list_of}
@@ -11,7 +12,8 @@ use Rattle.text_laws.specs.Examples.{Lines, NoLines, Orders, Limits, Listings, E
 
 lines : Lines
 unfolding word after_word digits_after is_number number_of is_name name_of lines_of number_value register_value
-    condition_value name_value slot_value values_of parse_from parse read_from definition_from said_at check_from assemble_of
+    condition_value name_value slot_value values_of parse_from parse read_from definition_from said_at check_from
+    assemble_of
 lines =
     record {
       add_pc = refl;
@@ -29,7 +31,8 @@ lines =
 
 no_lines : NoLines
 unfolding word after_word digits_after is_number number_of is_name name_of lines_of number_value register_value
-    condition_value name_value slot_value values_of parse_from parse read_from definition_from said_at check_from assemble_of
+    condition_value name_value slot_value values_of parse_from parse read_from definition_from said_at check_from
+    assemble_of
 no_lines =
     record {
       no_feed = refl;
@@ -65,7 +68,8 @@ no_lines =
 
 orders : Orders
 unfolding word after_word digits_after is_number number_of is_name name_of lines_of number_value register_value
-    condition_value name_value slot_value values_of parse_from parse read_from definition_from said_at check_from assemble_of
+    condition_value name_value slot_value values_of parse_from parse read_from definition_from said_at check_from
+    assemble_of
 orders =
     record {
       empty_text = refl;
@@ -81,7 +85,8 @@ orders =
 
 limits : Limits
 unfolding word after_word digits_after is_number number_of is_name name_of lines_of number_value register_value
-    condition_value name_value slot_value values_of parse_from parse read_from definition_from said_at check_from assemble_of
+    condition_value name_value slot_value values_of parse_from parse read_from definition_from said_at check_from
+    assemble_of
 limits =
     record {
       zero = refl;

@@ -15,7 +15,8 @@ use Rattle.isa.specs.declared.instruction.Instruction.TheVariants.{Halt}
 use Rattle.syntax.specs.Syntax.{Item, label_row, branch_row}
 use Rattle.syntax.proofs.Rows.{never}
 use Rattle.assembler.specs.Assemble.{is_label, value_at, instructions_in, Definition, definition_from, definition_of}
-use Rattle.assembler.specs.Assemble.{instruction_of, Said, Nothing, Instructs, Fault, label_said, field_said, branch_said}
+use Rattle.assembler.specs.Assemble.{instruction_of, Said, Nothing, Instructs, Fault, label_said, field_said}
+use Rattle.assembler.specs.Assemble.{branch_said}
 use Rattle.assembler.specs.Assemble.{said_at, Checked, Code, Fails, saying, next_number, check_from}
 use Rattle.text_laws.specs.Reasons.{item_at, number_before, Defines, FirstDefines, Branches, Fault22, again}
 use Rattle.text_laws.specs.Reasons.{missing, Fault23, value, reach, Faultless, Instructed, by_values, by_name}
@@ -96,7 +97,8 @@ instructed_one items n x y (by_name m c d f) (by_name k b g h) =
     let same : m ≡ k = first_one items m k _ (subst (FirstDefines items m) (sym c.named) d)
     (subst (FirstDefines items k) (sym b.named) g) in
     let there : instruction_of (item_at items n) (number_before items n) (number_before items k) ≡ some x
-    = subst (λ (l : ℕ). instruction_of (item_at items n) (number_before items n) (number_before items l) ≡ some x) same f in
+    = subst (λ (l : ℕ). instruction_of (item_at items n) (number_before items n) (number_before items l) ≡ some x) same
+    f in
     some-injective x y (sym there ∙ h)
 
 -- and no label says one

@@ -25,7 +25,8 @@ use Rattle.text.proofs.Words.{word_front, word_back}
 use Rattle.syntax.specs.Syntax.{Item, slot_value, slot_word, fill, values_of, pattern_at, label_row, branch_row, given}
 use Rattle.syntax.specs.Syntax.{register_word, label_word, line_with}
 use Rattle.syntax.proofs.Rows.{at_slot, never}
-use Rattle.assembler.specs.Assemble.{said_at, Instructs, field_said, in_fours, in_reach, branch_byte, definition_of, is_label}
+use Rattle.assembler.specs.Assemble.{said_at, Instructs, field_said, in_fours, in_reach, branch_byte, definition_of}
+use Rattle.assembler.specs.Assemble.{is_label}
 use Rattle.assembler.specs.Assemble.{value_at}
 use Rattle.lister.specs.List.{item_of, item_line}
 use Rattle.text_laws.proofs.Slots.{low, high, number, condition, label, decimal_word, register_past}
@@ -282,7 +283,8 @@ abbrev pub Landing : List Item → ℕ → Instruction → Type 0
 Landing items i x =
     (condition offset : ℕ) → x ≡ Branch condition offset
     → (line j : ℕ) × (j < 15936) × ((branch_target_of (address_of i) offset).0 ≡ 2 * j)
-    × (definition_of (name_at (branch_target_of (address_of i) offset).0) items ≡ some (record { line = line; number = j }))
+    × (definition_of (name_at (branch_target_of (address_of i) offset).0) items
+    ≡ some (record { line = line; number = j }))
 
 -- the item says its instruction again
 pub said : (items : List Item) (k i h : ℕ) (x : Instruction) → encode_of x ≡ Halfword h → i < 15936

@@ -9,7 +9,8 @@ use borrow.Author.Tests.{eqb-true, not-true}
 use Rattle.units.proofs.Every as Every
 use Rattle.text.specs.Text.{Text, is_small, in_word, every, feed, line, lines_of}
 use Rattle.text.proofs.Words.{and_left, and_right, every_append, every_weak}
-use Rattle.syntax.specs.Syntax.{Pattern, Item, LineOf, end, literal, slot, slot_word, values_of, parse, fill, first, tail}
+use Rattle.syntax.specs.Syntax.{Pattern, Item, LineOf, end, literal, slot, slot_word, values_of, parse, fill, first}
+use Rattle.syntax.specs.Syntax.{tail}
 use Rattle.syntax.specs.Syntax.{row_count, pattern_at, line_with}
 use Rattle.syntax.proofs.Patterns.{complete}
 use Rattle.syntax.proofs.Rows.{T_true, row_parse, delimited_rows}

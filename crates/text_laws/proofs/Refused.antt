@@ -89,7 +89,8 @@ halfwords_length : (is : List Instruction) → length (halfwords_of is) ≡ leng
 halfwords_length [] = refl
 halfwords_length (x ∷ is) = ap suc (halfwords_length is)
 
-halfword_at : (is : List Instruction) (j : ℕ) → get_or (halfwords_of is) j 0 ≡ halfword_in (encode_of (get_or is j (Halt 0)))
+halfword_at : (is : List Instruction) (j : ℕ) → get_or (halfwords_of is) j 0
+    ≡ halfword_in (encode_of (get_or is j (Halt 0)))
 halfword_at [] j = refl
 halfword_at (x ∷ is) zero = refl
 halfword_at (x ∷ is) (suc j) = halfword_at is j

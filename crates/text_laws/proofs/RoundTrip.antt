@@ -38,7 +38,8 @@ use Rattle.assembler.specs.Assemble.{Items, read_from, instructions_in, Definiti
 use Rattle.assembler.specs.Assemble.{definition_of, Instructs, said_at, Code, check_from, halfwords_of, Assembles}
 use Rattle.assembler.specs.Assemble.{assemble_of}
 use Rattle.lister.specs.List.{Lists, item_of, label_line, instruction_line, lines_at, listing_below, listing_of}
-use Rattle.lister.specs.List.{layout_for, instruction_checks, checks_at, check15, check16, list_checks, listing_as, list_of}
+use Rattle.lister.specs.List.{layout_for, instruction_checks, checks_at, check15, check16, list_checks, listing_as}
+use Rattle.lister.specs.List.{list_of}
 use Rattle.text_laws.specs.Claims.{ListThenAssemble, ListedLines, ListsLines}
 use Rattle.text_laws.proofs.Slots.{label_injective}
 use Rattle.text_laws.proofs.Reading.{read_written}
@@ -69,7 +70,8 @@ goes_targeted code i j h e =
     (length code) h
 
 -- an address that a branch from an even one goes to is even
-even_target : (i offset : ℕ) → (branch_target_of (address_of i) offset).0 ≡ 2 * ((branch_target_of (address_of i) offset).0 / 2)
+even_target : (i offset : ℕ) → (branch_target_of (address_of i) offset).0
+    ≡ 2 * ((branch_target_of (address_of i) offset).0 / 2)
 even_target i offset = go (ltb offset 128)
   where
     go : (b : Bool) → (2 * i % 65536 + cond b (2 * offset) (2 * offset + 65024)) % 65536
@@ -204,11 +206,13 @@ module _ (code : List ℕ) where
     unfolding listing_from lines_at read_from lines_of
     list_read i zero k h = refl
     list_read i (suc m) k h =
-        rw (append_assoc (label_line (targeted code i) (address_of i)) (instruction_line (address_of i) (decoded_at code i))
+        rw (append_assoc (label_line (targeted code i) (address_of i))
+        (instruction_line (address_of i) (decoded_at code i))
         (listing_from (suc i) m))
         (go (targeted code i) (λ n. list_read (suc i) m n (omega arith)))
       where
-        instruction : (n : ℕ) → ((p : ℕ) → read_from p (lines_of (listing_from (suc i) m)) ≡ Items (items_from (suc i) m))
+        instruction : (n : ℕ) → ((p : ℕ) → read_from p (lines_of (listing_from (suc i) m))
+            ≡ Items (items_from (suc i) m))
             → read_from n (lines_of (instruction_line (address_of i) (decoded_at code i) ++ listing_from (suc i) m))
             ≡ Items (item_at i ∷ items_from (suc i) m)
         instruction n f =
@@ -290,7 +294,8 @@ module _ (code : List ℕ) where
         go : (g : Bool) → targeted code i ≡ g
             → check_from items (after (targeted code i) k) (suc i) (items_from (suc i) m)
             ≡ Code (instructions_from (suc i) m)
-            → check_from items k i (labelled g i (item_at i ∷ items_from (suc i) m)) ≡ Code (instructions_from i (suc m))
+            → check_from items k i (labelled g i (item_at i ∷ items_from (suc i) m))
+            ≡ Code (instructions_from i (suc m))
         go true t e =
             check_label k i (item_at i ∷ items_from (suc i) m) (here t) ∙ check_item (suc k) i m (omega arith)
             (subst (λ (g : Bool). check_from items (after g k) (suc i) (items_from (suc i) m)

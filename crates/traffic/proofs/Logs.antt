@@ -26,7 +26,8 @@ last_was_access (suc k) log t some at is = let here : get_or log 0 0 ≡ k = ome
 pub last_was_none : (count : ℕ) (log : List ℕ) → (count ≡ 0 → ⊥) → (get_or log 0 0 ≡ count - 1 → ⊥)
     → NoData ≡ last_logged count log
 last_was_none zero log some at = absurd (some refl)
-last_was_none (suc k) log some at = let there : get_or log 0 0 ≡ k → ⊥ = λ e. at (omega arith) in simp (ne_eqb _ _ there)
+last_was_none (suc k) log some at = let there : get_or log 0 0 ≡ k
+    → ⊥ = λ e. at (omega arith) in simp (ne_eqb _ _ there)
 
 -- ---- what a step does to it
 

@@ -32,10 +32,12 @@ to_nowhere t e = clash (cc)
 
 module _ (a : ByteAddress) (h : ℕ) where
   -- what goes somewhere is a branch
-  is_jump : (t : ByteAddress) → jump_at a (decode_of h) ≡ To t → decode_of h ≡ Defined (Branch (field h 8 4) (field h 0 8))
+  is_jump : (t : ByteAddress) → jump_at a (decode_of h) ≡ To t → decode_of h
+      ≡ Defined (Branch (field h 8 4) (field h 0 8))
   is_jump t e = go (dec_le 208 (field h 8 8)) (dec_le (field h 8 8) 221)
     where
-      go : Dec (208 ≤ field h 8 8) → Dec (field h 8 8 ≤ 221) → decode_of h ≡ Defined (Branch (field h 8 4) (field h 0 8))
+      go : Dec (208 ≤ field h 8 8) → Dec (field h 8 8 ≤ 221) → decode_of h
+          ≡ Defined (Branch (field h 8 4) (field h 0 8))
       go (yes low) (yes high) = is_branch h low high
       go (yes low) (no n) = absurd (to_nowhere t (sym (no_branch a h (λ l u. n u)) ∙ e))
       go (no n) d = absurd (to_nowhere t (sym (no_branch a h (λ l u. n l)) ∙ e))

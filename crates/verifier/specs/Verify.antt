@@ -31,7 +31,8 @@ values_at code i = arriving code i (entering code i)
 -- what is put to instruction i of a code with a layout
 abbrev pub checks_at : List ℕ → Layout → ℕ → List Asked
 checks_at code layout i =
-    halfword_checks (values_at code i) layout (address_of i) (eqb (suc i) (length code)) (get_or code i 0) (decoded_at code i)
+    halfword_checks (values_at code i) layout (address_of i) (eqb (suc i) (length code)) (get_or code i 0)
+    (decoded_at code i)
 
 -- what is put to the first n instructions, lowest address first
 abbrev pub code_checks : List ℕ → Layout → ℕ → List Asked

@@ -105,5 +105,6 @@ adds_plainly code i rs rd e fits =
     let s : State = values_at code i in
     let inside : rd < length s = omega (arith, (narrow code i (AddHigh rs rd) e).1, length_values code i) in
     ap (λ (d : Decoded). (value (after_of (address_of i) d (values_at code i)) rd).low) e
-    ∙ ap (λ (v : Value). v.low) (get_or-set_same (values_at code i) rd (add_of (value s rd) (value s rs)) unknown_of inside)
+    ∙ ap (λ (v : Value). v.low) (get_or-set_same (values_at code i) rd (add_of (value s rd) (value s rs)) unknown_of
+    inside)
     ∙ add_low (value s rd) (value s rs) (low_below_high code i rd) (low_below_high code i rs) (omega arith)

@@ -93,7 +93,8 @@ module _ (code : List ℕ) where
   -- elsewhere the state is what the instruction above left
   next_values : (i : ℕ) (instruction : Instruction) → decoded_at code i ≡ Defined instruction
       → targeted code (suc i) ≡ false
-      → values_at code (suc i) ≡ standing_at (address_of (suc i)) (transfer_of (address_of i) instruction (values_at code i))
+      → values_at code (suc i) ≡ standing_at (address_of (suc i))
+      (transfer_of (address_of i) instruction (values_at code i))
   unfolding entering
   next_values i instruction e q =
       ap (λ (t : Bool). standing_at (address_of (suc i)) (cond t unknown_state (entering code (suc i)))) q
@@ -112,7 +113,8 @@ module _ (code : List ℕ) where
   -- where no branch goes
   not_reached : (i : ℕ) (instruction : Instruction) → decoded_at code i ≡ Defined instruction
       → (Reached code (suc i) → ⊥)
-      → values_at code (suc i) ≡ standing_at (address_of (suc i)) (transfer_of (address_of i) instruction (values_at code i))
+      → values_at code (suc i) ≡ standing_at (address_of (suc i))
+      (transfer_of (address_of i) instruction (values_at code i))
   not_reached i instruction e none = go (targeted code (suc i)) refl
     where
       go : (t : Bool) → targeted code (suc i) ≡ t → values_at code (suc i)

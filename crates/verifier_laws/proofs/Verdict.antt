@@ -48,7 +48,8 @@ module _ (code : List ℕ) (layout : Layout) where
   -- ---- one instruction
 
   passes : (i : ℕ) (d : Decoded) → decoded_at code i ≡ d
-      → first_no (halfword_checks (values_at code i) layout (address_of i) (eqb (suc i) (length code)) (get_or code i 0) d)
+      → first_no (halfword_checks (values_at code i) layout (address_of i) (eqb (suc i) (length code)) (get_or code i 0)
+      d)
       ≡ answer.Pass
       → Passes code layout i
   passes i (Defined instruction) q e₉ =
@@ -126,7 +127,8 @@ module _ (file : List ℕ) where
       })
   refused_first r (checked.Refused s) ok e = let q : s ≡ r = cc in inl (ok ∙ ap checked.Refused q)
 
-  first_refused : (r : Refusal) → (check_of file ≡ checked.Refused r) ⊎ RefusedInCode file r → verify_of file ≡ Refused r
+  first_refused : (r : Refusal) → (check_of file ≡ checked.Refused r) ⊎ RefusedInCode file r → verify_of file
+      ≡ Refused r
   unfolding verify_of
   first_refused r (inl e) = ap (verify_checked file) e
   first_refused r (inr f) =

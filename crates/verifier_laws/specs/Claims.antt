@@ -50,7 +50,8 @@ pub record StatesAlong (code : List ℕ) : Type 0 where
   pub first : values_at code 0 ≡ standing_at (address_of 0) unknown_state
   pub target : (j : ℕ) → Reached code j → values_at code j ≡ standing_at (address_of j) unknown_state
   pub next : (i : ℕ) (instruction : Instruction) → decoded_at code i ≡ Defined instruction → (Reached code (suc i) → ⊥)
-      → values_at code (suc i) ≡ standing_at (address_of (suc i)) (transfer_of (address_of i) instruction (values_at code i))
+      → values_at code (suc i) ≡ standing_at (address_of (suc i))
+      (transfer_of (address_of i) instruction (values_at code i))
 
 abbrev pub ForgetsAtTargets : Type 0
 ForgetsAtTargets = (code : List ℕ) → StatesAlong code

@@ -16,12 +16,14 @@ returns-in-0 c =
 pub returns-in-1 : goal.returns-in-1
 returns-in-1 c =
     immediate c.args.item c.args.i c.args.j 1 MovImm (leb c.args.item.values.b 255) c.args.item.values.b (imm_narrow 0)
-    (within_byte c.args.item.values.b 255 (omega arith)) refl c.in-1.is c.narrow-rd.ensures c.narrow-rs.ensures c.limited.ensures
+    (within_byte c.args.item.values.b 255 (omega arith)) refl c.in-1.is c.narrow-rd.ensures c.narrow-rs.ensures
+    c.limited.ensures
 
 pub returns-in-2 : goal.returns-in-2
 returns-in-2 c =
     immediate c.args.item c.args.i c.args.j 2 CmpImm (leb c.args.item.values.b 255) c.args.item.values.b (imm_narrow 1)
-    (within_byte c.args.item.values.b 255 (omega arith)) refl c.in-2.is c.narrow-rd.ensures c.narrow-rs.ensures c.limited-in-2.ensures
+    (within_byte c.args.item.values.b 255 (omega arith)) refl c.in-2.is c.narrow-rd.ensures c.narrow-rs.ensures
+    c.limited-in-2.ensures
 
 pub returns-in-3 : goal.returns-in-3
 returns-in-3 c =
@@ -55,28 +57,33 @@ returns-in-8 c =
 
 pub returns-in-9 : goal.returns-in-9
 returns-in-9 c =
-    registers c.args.item c.args.i c.args.j 9 AddHigh (high_narrow 0) refl c.in-9.is c.narrow-rs.ensures c.narrow-rd.ensures
+    registers c.args.item c.args.i c.args.j 9 AddHigh (high_narrow 0) refl c.in-9.is c.narrow-rs.ensures
+    c.narrow-rd.ensures
     c.encoded-in-9.ensures
 
 pub returns-in-10 : goal.returns-in-10
 returns-in-10 c =
-    registers c.args.item c.args.i c.args.j 10 CmpHigh cmp_narrow refl c.in-10.is c.narrow-rs.ensures c.narrow-rd.ensures
+    registers c.args.item c.args.i c.args.j 10 CmpHigh cmp_narrow refl c.in-10.is c.narrow-rs.ensures
+    c.narrow-rd.ensures
     c.encoded-in-10.ensures
 
 pub returns-in-11 : goal.returns-in-11
 returns-in-11 c =
-    registers c.args.item c.args.i c.args.j 11 MovHigh (high_narrow 2) refl c.in-11.is c.narrow-rs.ensures c.narrow-rd.ensures
+    registers c.args.item c.args.i c.args.j 11 MovHigh (high_narrow 2) refl c.in-11.is c.narrow-rs.ensures
+    c.narrow-rd.ensures
     c.encoded-in-11.ensures
 
 pub returns-in-12 : goal.returns-in-12
 returns-in-12 c =
-    memory c.args.item c.args.i c.args.j 12 Str (in_fours 124 c.args.item.values.c) (c.args.item.values.c / 4) (memory_narrow 0)
+    memory c.args.item c.args.i c.args.j 12 Str (in_fours 124 c.args.item.values.c) (c.args.item.values.c / 4)
+    (memory_narrow 0)
     (within_word 124 c.args.item.values.c (omega arith)) refl c.in-12.is c.narrow-word.ensures c.narrow-rs.ensures
     c.narrow-rd.ensures c.in_fours.ensures
 
 pub returns-in-13 : goal.returns-in-13
 returns-in-13 c =
-    memory c.args.item c.args.i c.args.j 13 Ldr (in_fours 124 c.args.item.values.c) (c.args.item.values.c / 4) (memory_narrow 1)
+    memory c.args.item c.args.i c.args.j 13 Ldr (in_fours 124 c.args.item.values.c) (c.args.item.values.c / 4)
+    (memory_narrow 1)
     (within_word 124 c.args.item.values.c (omega arith)) refl c.in-13.is c.narrow-word.ensures c.narrow-rs.ensures
     c.narrow-rd.ensures c.in_fours-in-13.ensures
 
@@ -94,7 +101,8 @@ returns-in-15 c =
 
 pub returns-in-16 : goal.returns-in-16
 returns-in-16 c =
-    immediate c.args.item c.args.i c.args.j 16 AddPc (in_fours 1020 c.args.item.values.b) (c.args.item.values.b / 4) pc_narrow
+    immediate c.args.item c.args.i c.args.j 16 AddPc (in_fours 1020 c.args.item.values.b) (c.args.item.values.b / 4)
+    pc_narrow
     (within_word 1020 c.args.item.values.b (omega arith)) refl c.in-16.is c.narrow-rd.ensures c.narrow-imm.ensures
     c.in_fours-in-16.ensures
 

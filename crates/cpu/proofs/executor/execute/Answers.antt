@@ -73,13 +73,15 @@ pub returns-in-274 : goal.returns-in-274
 unfolding execute_of
 returns-in-274 c =
     registers c.args.regs.now c.args.memory.now c.args.log.now c.args.k c.args.step c.args.h (search rules)
-    (λ fits. is_high _ fits 0 2 (lit< tt) (lit< tt) c.in-274.is) refl c.add_high-in-274.ensures c.completed-in-274.ensures
+    (λ fits. is_high _ fits 0 2 (lit< tt) (lit< tt) c.in-274.is) refl c.add_high-in-274.ensures
+    c.completed-in-274.ensures
 
 pub returns-in-275 : goal.returns-in-275
 unfolding execute_of
 returns-in-275 c =
     registers c.args.regs.now c.args.memory.now c.args.log.now c.args.k c.args.step c.args.h (search rules)
-    (λ fits. is_high _ fits 0 3 (lit< tt) (lit< tt) c.in-275.is) refl c.add_high-in-275.ensures c.completed-in-275.ensures
+    (λ fits. is_high _ fits 0 3 (lit< tt) (lit< tt) c.in-275.is) refl c.add_high-in-275.ensures
+    c.completed-in-275.ensures
 
 pub returns-in-277 : goal.returns-in-277
 unfolding execute_of
@@ -115,16 +117,19 @@ pub returns-in-282 : goal.returns-in-282
 unfolding execute_of
 returns-in-282 c =
     registers c.args.regs.now c.args.memory.now c.args.log.now c.args.k c.args.step c.args.h (search rules)
-    (λ fits. is_high _ fits 2 2 (lit< tt) (lit< tt) c.in-282.is) refl c.mov_high-in-282.ensures c.completed-in-282.ensures
+    (λ fits. is_high _ fits 2 2 (lit< tt) (lit< tt) c.in-282.is) refl c.mov_high-in-282.ensures
+    c.completed-in-282.ensures
 
 pub returns-in-283 : goal.returns-in-283
 unfolding execute_of
 returns-in-283 c =
     registers c.args.regs.now c.args.memory.now c.args.log.now c.args.k c.args.step c.args.h (search rules)
-    (λ fits. is_high _ fits 2 3 (lit< tt) (lit< tt) c.in-283.is) refl c.mov_high-in-283.ensures c.completed-in-283.ensures
+    (λ fits. is_high _ fits 2 3 (lit< tt) (lit< tt) c.in-283.is) refl c.mov_high-in-283.ensures
+    c.completed-in-283.ensures
 
 pub returns-in_default : goal.returns-in_default
 returns-in_default c =
     leads_as (held c.args.regs.now c.args.k) c.args.memory.now c.args.log.now c.args.step
-    (is_other c.args.h (search rules) (c.args.h / 64) refl (λ p. omega (arith, p)) (λ p. omega (arith, p)) (λ p. omega (arith, p)))
+    (is_other c.args.h (search rules) (c.args.h / 64) refl (λ p. omega (arith, p)) (λ p. omega (arith, p))
+    (λ p. omega (arith, p)))
     c.execute_other.ensures

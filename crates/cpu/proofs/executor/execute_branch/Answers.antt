@@ -100,5 +100,6 @@ returns-in-220 c =
 pub returns-in-221 : goal.returns-in-221
 returns-in-221 c =
     arm c.args.h (search rules) c.bits.ensures 13 (lit< tt) c.in-221.is c.args.k
-    (ap not c.is_greater-in-221.ensures ∙ not_greater (flags_in c.args.k).z (beq (flags_in c.args.k).n (flags_in c.args.k).v))
+    (ap not c.is_greater-in-221.ensures
+    ∙ not_greater (flags_in c.args.k).z (beq (flags_in c.args.k).n (flags_in c.args.k).v))
     c.branch-k-in-221.ensures c.completed-in-221.ensures

@@ -20,21 +20,22 @@ module _ (regs memory log : List ℕ) (k : Control) (step h : ℕ) where
   abbrev done : Decoded → Told
   done d = told_decoded d (held regs k) memory step log
 
-  module _ (fits : h < 65536) {x : ℕ} (told : x ≡ field h 11 5) (n : ℕ) (is : x ≡ n) (other : eqb (n / 4) 2 ≡ false) where
-    -- what the top five bits tell, where they are no operation's on registers
-    means : {known : Decoded} → (h < 65536 → field h 11 5 ≡ n → decode_of h ≡ known) → other_else h ≡ known
-    means decoded = as_decoded h n (sym told ∙ is) other ∙ decoded fits (sym told ∙ is)
+  module _ (fits : h < 65536) {x : ℕ} (told : x ≡ field h 11 5) (n : ℕ) (is : x ≡ n) (other : eqb (n / 4) 2 ≡ false)
+    where
+      -- what the top five bits tell, where they are no operation's on registers
+      means : {known : Decoded} → (h < 65536 → field h 11 5 ≡ n → decode_of h ≡ known) → other_else h ≡ known
+      means decoded = as_decoded h n (sym told ∙ is) other ∙ decoded fits (sym told ∙ is)
 
-    -- an instruction on registers, one on memory, and what leaves both alone
-    registers : {known : Decoded} {regs' : List ℕ} {e : Executed} {k' : Control} {m : Machine}
-        → (h < 65536 → field h 11 5 ≡ n → decode_of h ≡ known) → done known ≡ quiet m memory log → Holds regs' k' m
-        → Gave e k' Completed → Leads regs' e memory log (done (other_else h))
-    registers decoded does holds gave = arm (held regs k) memory log step (means decoded) does gave holds
+      -- an instruction on registers, one on memory, and what leaves both alone
+      registers : {known : Decoded} {regs' : List ℕ} {e : Executed} {k' : Control} {m : Machine}
+          → (h < 65536 → field h 11 5 ≡ n → decode_of h ≡ known) → done known ≡ quiet m memory log → Holds regs' k' m
+          → Gave e k' Completed → Leads regs' e memory log (done (other_else h))
+      registers decoded does holds gave = arm (held regs k) memory log step (means decoded) does gave holds
 
-    accesses : {known : Decoded} {regs' memory' log' : List ℕ} {e : Executed}
-        → (h < 65536 → field h 11 5 ≡ n → decode_of h ≡ known) → Leads regs' e memory' log' (done known)
-        → Leads regs' e memory' log' (done (other_else h))
-    accesses decoded leads = leads_as (held regs k) memory log step (means decoded) leads
+      accesses : {known : Decoded} {regs' memory' log' : List ℕ} {e : Executed}
+          → (h < 65536 → field h 11 5 ≡ n → decode_of h ≡ known) → Leads regs' e memory' log' (done known)
+          → Leads regs' e memory' log' (done (other_else h))
+      accesses decoded leads = leads_as (held regs k) memory log step (means decoded) leads
 
 pub returns-in-0 : goal.returns-in-0
 returns-in-0 c =

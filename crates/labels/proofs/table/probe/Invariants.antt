@@ -5,7 +5,8 @@ use Rattle.labels.proofs.table.probe.Given as goal
 
 abbrev pub invariant-loop-k : goal.invariant-loop-k
 invariant-loop-k l =
-    (l.k ≤ tries) × (l.at < length l.names) × (probe_from (length l.names) (tries - l.k) l.at l.names l.name ≡ probe_of l.names l.name)
+    (l.k ≤ tries) × (l.at < length l.names)
+    × (probe_from (length l.names) (tries - l.k) l.at l.names l.name ≡ probe_of l.names l.name)
 
 abbrev pub decreases-loop-k : goal.decreases-loop-k
 decreases-loop-k l = tries - l.k

@@ -9,13 +9,15 @@ pub put_target-requires : goal.put_target-requires
 put_target-requires c =
     let target : operands_of c.args.a c.args.h ≡ target_text c.branch_target.result =
     rw (c.branch_target.ensures, c.bits-in_default.ensures)
-    (operands_rest c.args.a c.args.h c.bits.ensures {B = Unit {0}} (((((tt, λ q. omega arith), λ q. omega arith), λ q. omega arith), λ q. omega arith), λ q. omega arith)) in
+    (operands_rest c.args.a c.args.h c.bits.ensures {B = Unit {0}}
+    (((((tt, λ q. omega arith), λ q. omega arith), λ q. omega arith), λ q. omega arith), λ q. omega arith)) in
     omega (arith, ap length target)
 
 pub returns-in_default : goal.returns-in_default
 returns-in_default c =
     let target : operands_of c.args.a c.args.h ≡ target_text c.branch_target.result =
     rw (c.branch_target.ensures, c.bits-in_default.ensures)
-    (operands_rest c.args.a c.args.h c.bits.ensures {B = Unit {0}} (((((tt, λ q. omega arith), λ q. omega arith), λ q. omega arith), λ q. omega arith), λ q. omega arith)) in
+    (operands_rest c.args.a c.args.h c.bits.ensures {B = Unit {0}}
+    (((((tt, λ q. omega arith), λ q. omega arith), λ q. omega arith), λ q. omega arith), λ q. omega arith)) in
     let w = wrote_as target (wrote c.put_target.ensures) in
     (w.place, w.room)

@@ -1,5 +1,6 @@
 -- What comes back of the part is zeros, as many as it was long.
-use Rattle.std.proofs.Common.{◌≡◌, ℕ, ◌-◌, ◌≤◌, List, length, take, drop, replicate, length-take, length-drop, arith, rules}
+use Rattle.std.proofs.Common.{◌≡◌, ℕ, ◌-◌, ◌≤◌, List, length, take, drop, replicate, length-take, length-drop, arith}
+use Rattle.std.proofs.Common.{rules}
 use borrow.Rule.Slice.PartMut.{put_mid, Post-is}
 use Rattle.loader.specs.Copy.{cleared}
 use Rattle.loader.proofs.copy.clear_window.Goals as goal

@@ -31,5 +31,6 @@ returns-in_default c =
 
 pub returns : goal.returns
 returns c =
-    let done = spent_run c.loop-count.invariant c.args.s c.control_of-k.ensures c.loop-count-test.false c.ended-2.ensures in
+    let done = spent_run c.loop-count.invariant c.args.s c.control_of-k.ensures c.loop-count-test.false
+    c.ended-2.ensures in
     record { count_after = done.0; log_after = done.1 }

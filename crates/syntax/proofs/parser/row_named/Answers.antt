@@ -5,7 +5,31 @@ use Rattle.syntax.proofs.Heads.{named, unnamed}
 use Rattle.syntax.proofs.parser.row_named.Goals as goal
 
 pub returns-in_default : goal.returns-in_default
-returns-in_default c t i f n = unnamed (Unit {0}) t i _ f n (((((((((((((tt, λ q. omega arith), λ q. omega arith), λ q. omega arith), λ q. omega arith), λ q. omega arith), λ q. omega arith), λ q. omega arith), λ q. omega arith), λ q. omega arith), λ q. omega arith), λ q. omega arith), λ q. omega arith), λ q. omega arith)
+returns-in_default c t i f n = unnamed (Unit {0}) t i _ f n (
+  (
+    (
+      (
+        (
+          (
+            (
+              (
+                (((((tt, λ q. omega arith), λ q. omega arith), λ q. omega arith), λ q. omega arith), λ q. omega arith),
+                λ q. omega arith,
+              ),
+              λ q. omega arith,
+            ),
+            λ q. omega arith,
+          ),
+          λ q. omega arith,
+        ),
+        λ q. omega arith,
+      ),
+      λ q. omega arith,
+    ),
+    λ q. omega arith,
+  ),
+  λ q. omega arith,
+)
 
 pub returns-in-1297045024 : goal.returns-in-1297045024
 unfolding first_fit fit_at operands_as behind_name

@@ -5,7 +5,37 @@ use Rattle.syntax.proofs.Conditions.{letters_none}
 use Rattle.syntax.proofs.slots.condition_number.Goals as goal
 
 pub returns-in_default : goal.returns-in_default
-returns-in_default c = letters_none (Unit {0}) c.args.letters ((((((((((((((tt, λ q. omega arith), λ q. omega arith), λ q. omega arith), λ q. omega arith), λ q. omega arith), λ q. omega arith), λ q. omega arith), λ q. omega arith), λ q. omega arith), λ q. omega arith), λ q. omega arith), λ q. omega arith), λ q. omega arith), λ q. omega arith)
+returns-in_default c = letters_none (Unit {0}) c.args.letters (
+  (
+    (
+      (
+        (
+          (
+            (
+              (
+                (
+                  (
+                    ((((tt, λ q. omega arith), λ q. omega arith), λ q. omega arith), λ q. omega arith),
+                    λ q. omega arith,
+                  ),
+                  λ q. omega arith,
+                ),
+                λ q. omega arith,
+              ),
+              λ q. omega arith,
+            ),
+            λ q. omega arith,
+          ),
+          λ q. omega arith,
+        ),
+        λ q. omega arith,
+      ),
+      λ q. omega arith,
+    ),
+    λ q. omega arith,
+  ),
+  λ q. omega arith,
+)
 
 pub returns-in-17745 : goal.returns-in-17745
 unfolding letters_value
