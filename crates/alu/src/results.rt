@@ -24,14 +24,14 @@ pub fn result_flags(k: Control, r: u16) -> Control
 pub fn sum(a: u16, b: u16) -> u16
     ensures { result ≡ sum_of a b }
 {
-    std::num::wrapping_add_u16(a, b)
+    a.wrapping_add(b)
 }
 
 pub fn difference(a: u16, b: u16) -> u16
     ensures { result ≡ difference_of a b }
 {
-    let negated = std::num::wrapping_add_u16(65535 - b, 1);
-    std::num::wrapping_add_u16(a, negated)
+    let negated = 65535 - b.wrapping_add(1);
+    a.wrapping_add(negated)
 }
 
 // The flags of a sum r of a and b.

@@ -3,8 +3,6 @@ use Rattle.std.proofs.Common.{◌≡◌, ℕ, ◌+◌, ◌<◌, ◌≤◌, Bool,
 use Rattle.units.specs.Address.{branch_target_of}
 use Rattle.units.specs.Field.{field}
 use Rattle.isa.specs.Decode.{halt_of}
-use Rattle.isa.specs.declared.decoder.Decoded.{Decoded}
-use Rattle.isa.specs.declared.decoder.Decoded.TheVariants.{Undefined}
 use Rattle.alu.specs.declared.control.Control.{Control}
 use Rattle.cpu.specs.declared.held.Executed.{Executed}
 use Rattle.cpu.specs.declared.machine.Machine.{Machine}
@@ -16,6 +14,8 @@ use Rattle.cpu.specs.Held.{held, branched, Told, told_decoded, Whole, Holds, Lea
 use Rattle.cpu.proofs.Ends.{pc_is, moved_on}
 use Rattle.cpu.proofs.Access.{Gave, leads, stays}
 use Rattle.cpu.proofs.Dispatch.{is_branch}
+use Rattle.std.specs.Prelude.{Option, None}
+use Rattle.isa.specs.declared.instruction.Instruction.{Instruction}
 
 -- a completed step that touched no data
 abbrev pub quiet : Machine → List ℕ → List ℕ → Told
@@ -23,19 +23,19 @@ quiet m memory log = record { result = completed m memory; log = log }
 
 -- what a halfword does whose meaning is known
 module _ (first : Machine) (memory log : List ℕ) (step : ℕ) where
-  pub leads_as : {d known : Decoded} {regs memory' log' : List ℕ} {e : Executed} → d ≡ known
+  pub leads_as : {d known : (Option Instruction)} {regs memory' log' : List ℕ} {e : Executed} → d ≡ known
       → Leads regs e memory' log' (told_decoded known first memory step log)
       → Leads regs e memory' log' (told_decoded d first memory step log)
   leads_as is done = rw is done
 
   -- an instruction that leaves memory and log alone
-  pub arm : {d known : Decoded} {regs : List ℕ} {e : Executed} {k : Control} {m : Machine} → d ≡ known
+  pub arm : {d known : (Option Instruction)} {regs : List ℕ} {e : Executed} {k : Control} {m : Machine} → d ≡ known
       → told_decoded known first memory step log ≡ quiet m memory log → Gave e k Completed → Holds regs k m
       → Leads regs e memory log (told_decoded d first memory step log)
   arm is does gave holds = rw (is, does) (leads memory log gave holds)
 
 -- a halfword that means nothing
-pub none : (d : Decoded) (k : Control) (e : Executed) → d ≡ Undefined → Gave e k (Stopped 19) → Beside e k d
+pub none : (d : Option Instruction) (k : Control) (e : Executed) → d ≡ None → Gave e k (Stopped 19) → Beside e k d
 none d k e is gave regs memory log step whole = rw is (stays memory log gave whole)
 
 pub halts : (h : ℕ) (k : Control) → h < 256 → Beside (record { control = k; outcome = Halted }) k (halt_of h)

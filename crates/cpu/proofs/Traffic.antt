@@ -3,8 +3,6 @@ use Rattle.std.proofs.Common.{ℕ, ◌<◌, Bool, true, false, cond, eqb, List, 
 use Rattle.units.specs.Address.{memory_bytes}
 use Rattle.units.specs.declared.address.ByteAddress.{ByteAddress}
 use Rattle.isa.specs.Access.{Access, access_of}
-use Rattle.isa.specs.declared.decoder.Decoded.{Decoded}
-use Rattle.isa.specs.declared.decoder.Decoded.TheVariants.{Defined, Undefined}
 use Rattle.traffic.specs.Data.{address_touched}
 use Rattle.traffic.specs.declared.data.Traffic.{Traffic}
 use Rattle.traffic.specs.declared.data.Traffic.TheVariants.{NoData, ReadByte, ReadHalfword, WroteByte, WroteHalfword}
@@ -13,6 +11,8 @@ use Rattle.cpu.specs.declared.outcome.Outcome.{Outcome}
 use Rattle.cpu.specs.declared.outcome.Outcome.TheVariants.{Completed, Halted, Stopped, Refused}
 use Rattle.cpu.specs.Step.{fetched, step_of}
 use Rattle.cpu.specs.Traffic.{data_address, touching, decoded_traffic, when_completed, step_traffic}
+use Rattle.std.specs.Prelude.{Option, Some, None}
+use Rattle.isa.specs.declared.instruction.Instruction.{Instruction}
 
 abbrev Small : Traffic → Type 0
 Small t = address_touched t < memory_bytes
@@ -33,9 +33,9 @@ touching_small access a small = go (eqb access.size 0) access.stores (eqb access
     go false false true = small
     go false false false = small
 
-decoded_small : (d : Decoded) (m : Machine) → Small (decoded_traffic d m)
-decoded_small (Defined i) m = touching_small (access_of i) (record { 0 = data_address m (access_of i) }) (omega arith)
-decoded_small Undefined m = none_small
+decoded_small : (d : Option Instruction) (m : Machine) → Small (decoded_traffic d m)
+decoded_small (Some i) m = touching_small (access_of i) (record { 0 = data_address m (access_of i) }) (omega arith)
+decoded_small None m = none_small
 
 told_small : (o : Outcome) (t : Traffic) → Small t → Small (when_completed o t)
 told_small Completed t small = small

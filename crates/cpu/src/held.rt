@@ -54,7 +54,7 @@ pub(crate) fn move_to(pc: u16, k: Control) -> Control
 pub(crate) fn advance(k: Control) -> Control
     ensures { result ≡ moved (wrap (k.pc + 2)) k }
 {
-    move_to(std::num::wrapping_add_u16(k.pc, 2), k)
+    move_to(k.pc.wrapping_add(2), k)
 }
 
 // Ends an instruction that has a result for one of R0 to R7.

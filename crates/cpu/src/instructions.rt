@@ -145,7 +145,7 @@ fn effective_address(regs: &[u16; 16], h: u16, distance: u16) -> u16
     ensures { result ≡ wrap (slice_index regs.now (field h 3 3) + distance) }
 {
     let base = regs[bits(h, 3, 3) as usize];
-    std::num::wrapping_add_u16(base, distance)
+    base.wrapping_add(distance)
 }
 
 // LDR, or stop 20.

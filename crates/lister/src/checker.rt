@@ -9,10 +9,10 @@ ghost use Rattle.lister.specs.List.{layout_for};
 ghost use Rattle.lister.specs.Passes.{number_of, CheckedAs};
 
 use checks::check_target;
-use image::{Answer, Layout};
-use isa::{Decoded, decode};
+use image::Layout;
+use isa::decode;
 use refusals::{Place, Refusal};
-use targets::{Target, jump, mark_target};
+use targets::{jump, mark_target};
 use units::{ByteAddress, InstructionIndex};
 
 // Check 9 of a halfword that is no instruction.
@@ -42,12 +42,12 @@ fn layout_for(code: &[u16]) -> Layout
 }
 
 // Check 13, as its number or 0.
-fn check_jump(layout: Layout, target: Target) -> u8
+fn check_jump(layout: Layout, target: Option<ByteAddress>) -> u8
     ensures { result ≡ cond (stays_in_code layout target) 0 13 }
 {
     match target {
-        Target::To(a) => check_target(a, layout),
-        Target::Nowhere => 0,
+        Some(a) => check_target(a, layout),
+        None => 0,
     }
 }
 
@@ -56,15 +56,15 @@ fn check_halfword(layout: Layout, a: ByteAddress, h: u16) -> u8
     ensures { result ≡ number_of layout a (decode_of h) }
 {
     match decode(h) {
-        Decoded::Undefined => UNDEFINED,
-        Decoded::Defined(_) => check_jump(layout, jump(a, h)),
+        None => UNDEFINED,
+        Some(_) => check_jump(layout, jump(a, h)),
     }
 }
 
 // Checks 9 and 13 of a code, instruction by instruction, lowest address first.
 // Where nothing is marked yet and all pass, the marks are those of the code's
 // branch targets.
-pub(crate) fn check_code(code: &[u16], marks: &mut [u64; 249]) -> Answer
+pub(crate) fn check_code(code: &[u16], marks: &mut [u64; 249]) -> Result<(), Refusal>
     requires { (length code.now ≤ most_code) × Unmarked marks.old }
     ensures { CheckedAs code.now result marks.new }
 {
@@ -76,10 +76,10 @@ pub(crate) fn check_code(code: &[u16], marks: &mut [u64; 249]) -> Answer
         let a = units::byte_address(i);
         let no = check_halfword(layout, a, h);
         if no != 0 {
-            return Answer::Refused(refusal_at(no, a));
+            return Err(Refusal::at(no, a));
         }
         mark_target(marks, i, h);
         k += 1;
     }
-    Answer::Pass
+    Ok(())
 }

@@ -1,5 +1,5 @@
 -- The questions that can refuse ("The questions", "Change 4"), each by a name and by its number in the papers.
-use Rattle.std.specs.Prelude.{ℕ}
+use Rattle.std.specs.Prelude.{ℕ, Bool, cond, Result, Ok, Err, ⊤}
 use Rattle.refusals.specs.declared.check.Check.{Check}
 use Rattle.refusals.specs.declared.check.Check.TheVariants.{MemorySize, FileLength, Mark, Sum, Numbering, Filling}
 use Rattle.refusals.specs.declared.check.Check.TheVariants.{SameWindow, Window, Defined, Access, Alignment, PcWrite}
@@ -27,3 +27,7 @@ check_number Fields = 17
 check_number Line = 21
 check_number Label = 22
 check_number Value = 23
+
+-- a check whose test comes out so: it passes, or it is the one that has failed
+abbrev pub outcome : Check → Bool → Result ⊤ Check
+outcome check test = cond test (Ok tt) (Err check)

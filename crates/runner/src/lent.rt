@@ -69,7 +69,7 @@ pub fn run_lent(
     if memory.len() != MEMORY_BYTES {
         return RanLent {
             status: s,
-            outcome: RunOutcome::Refused(refusal_of(1)),
+            outcome: RunOutcome::Refused(Refusal::new(Check::MemorySize)),
             count: 0,
         };
     }

@@ -3,7 +3,7 @@
 // two would go through memory. Branches, operations on registers, loads and
 // stores are told by tests: a processor foresees a test better than one way more
 // out of a table.
-ghost use Rattle.std.specs.Prelude.{List, ◌≡◌, ℕ, length, set};
+ghost use Rattle.std.specs.Prelude.{List, ◌≡◌, ℕ, length, set, None};
 ghost use Rattle.units.specs.Address.{pc_sum};
 ghost use Rattle.units.specs.Field.{field};
 ghost use Rattle.isa.specs.Decode.{halt_of, alu_of, high_of, registers_of, memory_of, decode_of};
@@ -17,7 +17,7 @@ use super::state::{set_value, value_at};
 use checks::{check_byte, check_halfword, check_target, check_write};
 use domain::Value;
 use image::Layout;
-use targets::{Target, jump};
+use targets::jump;
 use units::ByteAddress;
 
 // Check 9 of a halfword that is no instruction.
@@ -181,7 +181,7 @@ fn visit_memory(state: &mut [u64; 16], layout: Layout, h: u16) -> u8
 
 // Checks 9 to 12 of a halfword that is no branch, and the state behind it.
 fn visit_straight(state: &mut [u64; 16], layout: Layout, a: ByteAddress, h: u16) -> u8
-    requires { (length state.old ≡ register_count) × (jump_at a (decode_of h) ≡ Target.Nowhere) }
+    requires { (length state.old ≡ register_count) × (jump_at a (decode_of h) ≡ None) }
     ensures { Visited layout a (decode_of h) state.old state.new result }
 {
     if units::bits(h, 13, 3) == REGISTER_FORMAT {
@@ -212,7 +212,7 @@ pub(crate) fn visit(state: &mut [u64; 16], layout: Layout, a: ByteAddress, h: u1
     requires { length state.old ≡ register_count }
     ensures { Visited layout a (decode_of h) state.old state.new result }
 {
-    let Target::To(target) = jump(a, h) else {
+    let Some(target) = jump(a, h) else {
         return visit_straight(state, layout, a, h);
     };
     check_target(target, layout)

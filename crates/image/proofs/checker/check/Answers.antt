@@ -22,8 +22,8 @@ read_layout-requires c =
     let size = size_right _ (told_yes _ _ c.has_whole_blocks.ensures (search)) in
     (refl, omega arith, omega arith, sym c.check_blocks-answer.ensures ∙ search)
 
-pub returns-in-Refused : goal.returns-in-Refused
-returns-in-Refused c = search (refused_block, told)
+pub returns-in-Err : goal.returns-in-Err
+returns-in-Err c = search (refused_block, told)
 
-pub returns-in-Pass : goal.returns-in-Pass
-returns-in-Pass c = search (rest8, told)
+pub returns-in-Ok : goal.returns-in-Ok
+returns-in-Ok c = search (rest8, told)

@@ -8,8 +8,8 @@ pub loop-k-init : goal.loop-k-init
 unfolding first_no rows_below
 loop-k-init c = (search rules, refl)
 
-pub returns-in-Refused : goal.returns-in-Refused
-returns-in-Refused c = search refused_at
+pub returns-in-Err : goal.returns-in-Err
+returns-in-Err c = search refused_at
 
 pub loop-k-preserved : goal.loop-k-preserved
 loop-k-preserved c = (search rules, search passed_too)
