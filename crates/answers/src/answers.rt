@@ -5,7 +5,6 @@ ghost use Rattle.answers.specs.Answers.{loaded_word, packed_number};
 
 use image::{BLOCK_BYTES, Layout};
 use reader::Given;
-use refusals::refusal_word;
 
 // The lengths of a program that passed.
 fn layout_word(layout: Layout) -> u64

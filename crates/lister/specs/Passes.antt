@@ -10,13 +10,15 @@ use Rattle.text.specs.Text.{Text}
 use Rattle.lister.specs.List.{label_line, instruction_line, checks_at, listing_of, check16, Listing, listing_as}
 use Rattle.std.specs.Prelude.{Option, Some, None, Result, Ok, Err, ⊤}
 use Rattle.isa.specs.declared.instruction.Instruction.{Instruction}
+use Rattle.refusals.specs.Check.{outcome}
+use Rattle.refusals.specs.declared.check.Check.{Check}
 use Rattle.refusals.specs.declared.check.Check.TheVariants as check
 use Rattle.refusals.specs.declared.refusal.Refusal.{Refusal}
 
--- checks 9 and 13 of the halfword at an address as a number: that of the first which fails, or 0
-abbrev pub number_of : Layout → ByteAddress → Option Instruction → ℕ
-number_of layout a None = 9
-number_of layout a (Some i) = cond (check13 layout a i) 0 13
+-- the first of checks 9 and 13 that the halfword at an address fails, if one does
+abbrev pub found_in : Layout → ByteAddress → Option Instruction → Result ⊤ Check
+found_in layout a None = Err check.Defined
+found_in layout a (Some i) = outcome check.Target (check13 layout a i)
 
 -- what is written for the instruction at an address, be it a target or not
 abbrev pub lines_with : Bool → ByteAddress → Option Instruction → Text

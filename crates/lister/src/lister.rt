@@ -6,7 +6,7 @@ ghost use Rattle.lister.specs.Passes.{Labelled, fitted_of};
 use super::checker::check_code;
 use super::writer::{measure, write};
 use image::MOST_CODE;
-use refusals::{Refusal, refusal_of};
+use refusals::{Check, Refusal};
 
 // Check 15.
 fn is_program(code: &[u16]) -> bool
@@ -59,8 +59,6 @@ pub fn list(code: &[u16], out: &mut [u8]) -> Result<usize, Refusal>
         return Err(Refusal::new(Check::CodeLength));
     }
     let mut marks = [0u64; 249];
-    match check_code(code, &mut marks) {
-        Err(refusal) => Err(refusal),
-        Ok(()) => write_listing(code, &marks, out),
-    }
+    check_code(code, &mut marks)?;
+    write_listing(code, &marks, out)
 }

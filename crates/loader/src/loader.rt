@@ -6,8 +6,8 @@ ghost use Rattle.loader.specs.Load.{load_of, memory_after_load, loaded_memory};
 
 use super::copy::{clear_window, copy_code};
 use image::Layout;
-use refusals::{Refusal, refusal_of};
-use units::{ByteAddress, MEMORY_BYTES};
+use refusals::{Check, Refusal};
+use units::{ByteAddress, InstructionIndex, MEMORY_BYTES};
 
 // Puts the code of a fit file to address 0 and clears its window.
 fn place(file: &[u8], layout: Layout, memory: &mut [u8])
@@ -17,7 +17,7 @@ fn place(file: &[u8], layout: Layout, memory: &mut [u8])
 {
     let start = layout.window_start as usize;
     let end = start + layout.window_length as usize;
-    let count = units::instruction_index(ByteAddress(layout.code_bytes));
+    let count = InstructionIndex::from(ByteAddress(layout.code_bytes));
     copy_code(file, memory, count);
     clear_window(memory, start, end);
 }
@@ -33,11 +33,7 @@ pub fn load(file: &[u8], memory: &mut [u8]) -> Result<Layout, Refusal>
     if memory.len() != MEMORY_BYTES {
         return Err(Refusal::new(Check::MemorySize));
     }
-    match verifier::verify(file) {
-        Err(refusal) => Err(refusal),
-        Ok(layout) => {
-            place(file, layout, memory);
-            Ok(layout)
-        }
-    }
+    let layout = verifier::verify(file)?;
+    place(file, layout, memory);
+    Ok(layout)
 }

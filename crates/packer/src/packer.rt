@@ -6,18 +6,15 @@ ghost use Rattle.packer.specs.Pack.{pack_checks, pack_of, output_of};
 
 use super::writer::{blocks_needed, write_image};
 use image::{BLOCK_BYTES, MOST_CODE, is_window};
-use refusals::{Refusal, refusal_of};
-use units::{InstructionIndex, byte_address};
+use refusals::{Check, Refusal};
+use units::{ByteAddress, InstructionIndex};
 
 // Checks 15, 8 and 16 of an output of `size` bytes.
 fn check_pack(code: &[u16], w: u16, l: u16, size: usize) -> Result<(), Refusal>
     ensures { result ≡ first_no (pack_checks code.now w l size) }
 {
     let n = code.len();
-    if n < 1 {
-        return Err(Refusal::new(Check::CodeLength));
-    }
-    if MOST_CODE < n {
+    if n < 1 || MOST_CODE < n {
         return Err(Refusal::new(Check::CodeLength));
     }
     let end = ByteAddress::from(InstructionIndex(n as u16));
@@ -36,12 +33,7 @@ pub fn pack(code: &[u16], w: u16, l: u16, out: &mut [u8]) -> Result<(), Refusal>
     ensures { (result ≡ pack_of code.now w l (length out.old))
         × (out.new ≡ output_of code.now w l out.old) }
 {
-    let answer = check_pack(code, w, l, out.len());
-    match answer {
-        Err(refusal) => Err(refusal),
-        Ok(()) => {
-            write_image(code, w, l, out);
-            Ok(())
-        }
-    }
+    check_pack(code, w, l, out.len())?;
+    write_image(code, w, l, out);
+    Ok(())
 }

@@ -3,7 +3,6 @@ ghost use Rattle.std.specs.Prelude.{◌≡◌};
 ghost use Rattle.paw_tools.specs.Answers.{above, assembled_word, listed_word};
 
 use assembler::Assembled;
-use refusals::refusal_word;
 
 // The largest number that 48 bits hold.
 const MOST: u64 = 0xffffffffffff;

@@ -22,5 +22,5 @@ pub fn jump(a: ByteAddress, h: u16) -> Option<ByteAddress>
     if upper > LAST_BRANCH {
         return None;
     }
-    Some(units::branch_target(a, units::bits(h, 0, 8)))
+    Some(a.branch_target(units::bits(h, 0, 8)))
 }

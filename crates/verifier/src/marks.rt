@@ -26,7 +26,7 @@ fn mark_block(
     ensures { MarkedBelow (code_of file.now)
         (block_end start.0 (length (code_of file.now))) marks.new }
 {
-    let count = units::instruction_index(ByteAddress(layout.code_bytes));
+    let count = InstructionIndex::from(ByteAddress(layout.code_bytes));
     let end = block_end(start, count);
     let mut i = start;
     let mut position = first;
@@ -47,7 +47,7 @@ pub(crate) fn mark_targets(file: &[u8], layout: Layout, marks: &mut [u64; 249])
     ensures { (j : ℕ) → j < most_code
         → marked_at marks.new j ≡ targeted (code_of file.now) j }
 {
-    let count = units::instruction_index(ByteAddress(layout.code_bytes));
+    let count = InstructionIndex::from(ByteAddress(layout.code_bytes));
     let mut i = InstructionIndex(0);
     let mut position = FIRST_POSITION;
     while i.0 < count.0 {

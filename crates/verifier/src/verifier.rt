@@ -1,6 +1,5 @@
 // The walk over a code, and the verdict on a file.
 ghost use Rattle.std.specs.Prelude.{cond, ◌≡◌, ◌<◌, length, Ok};
-ghost use Rattle.refusals.specs.Refusal.{refusal_at};
 ghost use Rattle.units.specs.Address.{byte_address_of};
 ghost use Rattle.image.specs.Check.{check_of};
 ghost use Rattle.image.specs.Code.{code_of};
@@ -18,19 +17,9 @@ use super::state::{REGISTERS, set_value, word_of};
 use super::visits::visit;
 use checks::{PC, check_last};
 use image::{BLOCK_BYTES, Layout};
-use refusals::{Place, Refusal};
+use refusals::Refusal;
 use targets::is_marked;
 use units::{ByteAddress, InstructionIndex, halfword_at};
-
-// The refusal of the instruction at an address.
-fn refusal_at(number: u8, a: ByteAddress) -> Refusal
-    ensures { result ≡ refusal_at number a }
-{
-    Refusal {
-        number,
-        place: Place::Address(a),
-    }
-}
 
 // Makes of the state that falls into instruction `i` the one in which it is
 // checked: at a branch target nothing is known, and R15 is its own address.
@@ -43,7 +32,7 @@ fn arrive(state: &mut [u64; 16], marks: &[u64; 249], i: InstructionIndex)
     if is_marked(marks, i) {
         *state = [word_of(domain::unknown()); REGISTERS];
     }
-    let a = units::byte_address(i);
+    let a = ByteAddress::from(i);
     set_value(state, PC, domain::exactly(a.0));
 }
 
@@ -61,17 +50,16 @@ fn walk_block(
     ensures { WalkedTo (code_of file.now) layout
         (block_end start.0 (length (code_of file.now))) (state_of state.new) result }
 {
-    let count = units::instruction_index(ByteAddress(layout.code_bytes));
+    let count = InstructionIndex::from(ByteAddress(layout.code_bytes));
     let end = block_end(start, count);
     let mut i = start;
     let mut position = first;
     while i.0 < end.0 {
         arrive(state, marks, i);
         let h = halfword_at(file, position);
-        let a = units::byte_address(i);
-        let no = visit(state, layout, a, h);
-        if no != 0 {
-            return Err(Refusal::at(no, a));
+        let a = ByteAddress::from(i);
+        if let Err(check) = visit(state, layout, a, h) {
+            return Err(Refusal::at(check, a));
         }
         position += 2;
         i = InstructionIndex(i.0 + 1);
@@ -85,11 +73,10 @@ fn check_end(file: &[u8], layout: Layout) -> Result<Layout, Refusal>
     requires { NoneAhead file.now layout }
     ensures { result ≡ verify_code (code_of file.now) layout }
 {
-    let count = units::instruction_index(ByteAddress(layout.code_bytes));
+    let count = InstructionIndex::from(ByteAddress(layout.code_bytes));
     let last = InstructionIndex(count.0 - 1);
-    let no = check_last(image::code_at(file, last));
-    if no != 0 {
-        return Err(Refusal::at(no, units::byte_address(last)));
+    if let Err(check) = check_last(image::code_at(file, last)) {
+        return Err(Refusal::at(check, ByteAddress::from(last)));
     }
     Ok(layout)
 }
@@ -100,17 +87,14 @@ fn walk(file: &[u8], layout: Layout) -> Result<Layout, Refusal>
     requires { check_of file.now ≡ Ok layout }
     ensures { result ≡ verify_code (code_of file.now) layout }
 {
-    let count = units::instruction_index(ByteAddress(layout.code_bytes));
+    let count = InstructionIndex::from(ByteAddress(layout.code_bytes));
     let mut marks = [0u64; 249];
     mark_targets(file, layout, &mut marks);
     let mut state = [word_of(domain::unknown()); REGISTERS];
     let mut i = InstructionIndex(0);
     let mut position = FIRST_POSITION;
     while i.0 < count.0 {
-        let answer = walk_block(file, layout, &marks, &mut state, i, position);
-        if let Err(refusal) = answer {
-            return Err(refusal);
-        }
+        walk_block(file, layout, &marks, &mut state, i, position)?;
         position += BLOCK_BYTES;
         i = block_end(i, count);
     }
@@ -124,8 +108,6 @@ fn walk(file: &[u8], layout: Layout) -> Result<Layout, Refusal>
 pub fn verify(file: &[u8]) -> Result<Layout, Refusal>
     ensures { result ≡ verify_of file.now }
 {
-    match image::check(file) {
-        Err(refusal) => Err(refusal),
-        Ok(layout) => walk(file, layout),
-    }
+    let layout = image::check(file)?;
+    walk(file, layout)
 }
