@@ -2,6 +2,7 @@
 use Rattle.std.specs.Prelude.{Bool, true, ◌&&◌, cond, List, [], ◌∷◌, ◌++◌, ℕ, zero, suc, ◌+◌, ◌-◌, ◌*◌, ◌%◌, eqb, leb}
 use Rattle.std.specs.Prelude.{length, Result, Ok, Err, ⊤}
 use Rattle.units.specs.Address.{memory_bytes}
+use Rattle.refusals.specs.declared.check.Check.{Check}
 use Rattle.refusals.specs.declared.check.Check.TheVariants as check
 use Rattle.refusals.specs.Refusal.{refusal, refusal_in_block}
 use Rattle.refusals.specs.declared.refusal.Refusal.{Refusal}
@@ -17,11 +18,11 @@ pub record Asked : Type 0 where
   pub otherwise : Refusal
 
 -- a check of a whole file or code, and one of block k
-abbrev pub whole : ℕ → Bool → Asked
-whole number test = record { passed = test; otherwise = refusal number }
+abbrev pub whole : Check → Bool → Asked
+whole check test = record { passed = test; otherwise = refusal check }
 
-abbrev pub in_block : ℕ → ℕ → Bool → Asked
-in_block number k test = record { passed = test; otherwise = refusal_in_block number k }
+abbrev pub in_block : Check → ℕ → Bool → Asked
+in_block check k test = record { passed = test; otherwise = refusal_in_block check k }
 
 -- checks are put in order, and the first no gives the refusal
 unfoldable pub first_no : List Asked → Result ⊤ Refusal
