@@ -2,7 +2,8 @@
 ghost use Rattle.std.specs.Prelude.{◌≡◌};
 ghost use Rattle.answers.specs.Instructions.{encoded_number, encoded_word};
 
-use isa::Encoded;
+use isa::Instruction;
+use refusals::{Check, Refusal};
 
 // The answer's number: 65,536 times the halfword, or the refusal's own.
 fn encoded_number(e: Result<u16, Refusal>) -> u32
@@ -10,7 +11,7 @@ fn encoded_number(e: Result<u16, Refusal>) -> u32
 {
     match e {
         Ok(h) => (h as u32) * 0x10000,
-        Err(r) => r.number as u32,
+        Err(r) => u8::from(r.check) as u32,
     }
 }
 
@@ -20,6 +21,6 @@ pub fn encoded_word(d: Option<Instruction>) -> u32
 {
     match d {
         Some(i) => encoded_number(isa::encode(i)),
-        None => 17,
+        None => u8::from(Check::Fields) as u32,
     }
 }
