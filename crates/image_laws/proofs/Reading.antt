@@ -24,17 +24,17 @@ use Rattle.std.specs.Prelude.{Some, None, Result, Ok, Err}
 
 module _ (file : List ℕ) where
   module _ (said : Layout) (valid : check_of file ≡ Ok said) where
-    given_there : (n : ℕ) → given_of file n ≡ block_at file n
+    given_there : (n : ℕ) → given_of file n ≡ Ok (block_at file n)
     unfolding given_of
     given_there n = ap (given_as file n) valid
 
     block_there : (n : ℕ) → n < blocks_in file → given_of file n ≡ Ok (Some (block_bytes * n))
     unfolding block_at
-    block_there n h = given_there n ∙ simp (lt-ltb n (blocks_in file) h)
+    block_there n h = given_there n ∙ ap Ok (simp (lt-ltb n (blocks_in file) h))
 
     none_left : (n : ℕ) → blocks_in file ≤ n → given_of file n ≡ Ok None
     unfolding block_at
-    none_left n h = given_there n ∙ simp (le-ltb n (blocks_in file) h)
+    none_left n h = given_there n ∙ ap Ok (simp (le-ltb n (blocks_in file) h))
 
     -- the bytes from its start on are the block
     bytes_there : (n : ℕ) → n < blocks_in file → bytes_of file (given_of file n) ≡ block_of file n
@@ -60,7 +60,7 @@ module _ (file : List ℕ) where
   at_end : (n : ℕ) (a : Result Layout Refusal) → check_of file ≡ a → given_as file n a ≡ Ok None
       → (check_of file ≡ Ok (layout_of file)) × (blocks_in file ≤ n)
   unfolding block_at
-  at_end n (Ok said) e h = (e ∙ ap Ok (valid_layout file said e), past_last n (is_left file n) refl h)
+  at_end n (Ok said) e h = (e ∙ ap Ok (valid_layout file said e), past_last n (is_left file n) refl (cc))
   at_end n (Err r) e h = clash (cc)
 
 -- the reader of a file that comes to block k next

@@ -1,6 +1,5 @@
 -- Halfword by halfword the block's code is written and added to the sum.
 use Rattle.std.proofs.Common.{◌≡◌, ◌+◌, length}
-use Rattle.packer.specs.Pack.{used_in}
 use Rattle.packer.specs.Writing.{Written}
 use Rattle.packer.proofs.writer.Plan.write_code.Given as goal
 
