@@ -1,6 +1,6 @@
 use Rattle.std.proofs.Common.{◌≡◌, ◌+◌, sym, ◌∙◌, arith}
 use Rattle.packer.proofs.Images.{room_kept, body_code, written_more}
-use Rattle.packer.proofs.writer.write_code.Goals as goal
+use Rattle.packer.proofs.writer.Plan.write_code.Goals as goal
 
 pub loop-i-preserved : goal.loop-i-preserved
 loop-i-preserved c =
@@ -8,12 +8,10 @@ loop-i-preserved c =
     let put = c.put_halfword in
     let next : 6 + (at.i + 1) ≡ 6 + at.i + 1 = omega arith in
     record {
-      within = omega arith;
-      used_is = at.invariant.used_is;
       long = put.auto.bytes ∙ at.invariant.long;
-      written = λ w l so.
+      written =
           rw next
-          (written_more _ _ _ _ (6 + at.i) _ _ _ _ _ (room_kept _ _ _ _ c.requires at.invariant.long)
-          (at.invariant.written w l so) (omega arith) put.ensures _ (omega arith) (sym (body_code _ w l _ at.i))
+          (written_more _ _ _ _ (6 + at.i) _ _ _ _ _ (room_kept _ _ _ _ c.requires.room at.invariant.long)
+          at.invariant.written (omega arith) put.ensures _ (omega arith) (sym (body_code _ _ _ _ at.i))
           c.add_to_sum-sum.ensures);
     }

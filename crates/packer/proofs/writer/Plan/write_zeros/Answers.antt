@@ -1,6 +1,6 @@
 use Rattle.std.proofs.Common.{◌≡◌, refl, ◌∙◌, arith}
 use Rattle.packer.proofs.Images.{room_kept, written_zero}
-use Rattle.packer.proofs.writer.write_zeros.Goals as goal
+use Rattle.packer.proofs.writer.Plan.write_zeros.Goals as goal
 
 pub loop-j-preserved : goal.loop-j-preserved
 loop-j-preserved c =
@@ -10,13 +10,13 @@ loop-j-preserved c =
       past_code = omega arith;
       within = omega arith;
       long = put.auto.bytes ∙ at.invariant.long;
-      written = λ w l sum so.
+      written = λ sum so.
           written_zero _ _ _ _ at.j _ _ _ _ _ (room_kept _ _ _ _ c.requires at.invariant.long)
-          (at.invariant.written w l sum so) refl put.ensures at.invariant.past_code (omega arith) refl;
+          (at.invariant.written sum so) refl put.ensures at.invariant.past_code (omega arith) refl;
     }
 
 pub returns : goal.returns
-returns c w l sum so =
+returns c sum so =
     let at = c.loop-j in
     let all : at.j ≡ 255 = omega arith in
-    rw all at (at.invariant.written w l sum so)
+    rw all at (at.invariant.written sum so)
