@@ -24,7 +24,7 @@ use Rattle.cpu.specs.Step.{branch_of}
 abbrev pub keeping : Outcome → ℕ → Machine → Machine
 keeping Completed n m = with_note n m
 keeping Halted n m = m
-keeping (Stopped number) n m = with_note n m
+keeping (Stopped why) n m = with_note n m
 keeping (Refused r) n m = with_note n m
 
 -- a step's result with that note
@@ -94,5 +94,5 @@ bare_step m memory other =
         ≡ unnoted (step_result (keeping o 0 s.machine) s.memory o)
     kept Completed s other = refl
     kept Halted s other = absurd (other refl)
-    kept (Stopped number) s other = refl
+    kept (Stopped why) s other = refl
     kept (Refused r) s other = refl

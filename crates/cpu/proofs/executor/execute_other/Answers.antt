@@ -8,14 +8,15 @@ use Rattle.alu.specs.declared.control.Control.{Control}
 use Rattle.cpu.specs.declared.held.Executed.{Executed}
 use Rattle.cpu.specs.declared.machine.Machine.{Machine}
 use Rattle.cpu.specs.declared.outcome.Outcome.TheVariants.{Completed}
+use Rattle.traffic.specs.declared.log.Log.{Log}
 use Rattle.cpu.specs.Step.{execute_of}
-use Rattle.cpu.specs.Held.{held, Told, told_decoded, Holds, Leads, other_else}
+use Rattle.cpu.specs.Held.{held, Told, told_decoded, Leads, other_else}
 use Rattle.cpu.proofs.Access.{Gave}
 use Rattle.cpu.proofs.Dispatch.{as_decoded, is_branch_or_none}
 use Rattle.cpu.proofs.Formats.{quiet, leads_as, arm}
 use Rattle.cpu.proofs.executor.execute_other.Goals as goal
 
-module _ (regs memory log : List ℕ) (k : Control) (step h : ℕ) where
+module _ (regs memory : List ℕ) (log : Log) (k : Control) (step h : ℕ) where
   -- what a halfword of this meaning would do
   abbrev done : Decoded → Told
   done d = told_decoded d (held regs k) memory step log
@@ -28,11 +29,11 @@ module _ (regs memory log : List ℕ) (k : Control) (step h : ℕ) where
 
       -- an instruction on registers, one on memory, and what leaves both alone
       registers : {known : Decoded} {regs' : List ℕ} {e : Executed} {k' : Control} {m : Machine}
-          → (h < 65536 → field h 11 5 ≡ n → decode_of h ≡ known) → done known ≡ quiet m memory log → Holds regs' k' m
+          → (h < 65536 → field h 11 5 ≡ n → decode_of h ≡ known) → done known ≡ quiet m memory log → held regs' k' ≡ m
           → Gave e k' Completed → Leads regs' e memory log (done (other_else h))
       registers decoded does holds gave = arm (held regs k) memory log step (means decoded) does gave holds
 
-      accesses : {known : Decoded} {regs' memory' log' : List ℕ} {e : Executed}
+      accesses : {known : Decoded} {regs' memory' : List ℕ} {log' : Log} {e : Executed}
           → (h < 65536 → field h 11 5 ≡ n → decode_of h ≡ known) → Leads regs' e memory' log' (done known)
           → Leads regs' e memory' log' (done (other_else h))
       accesses decoded leads = leads_as (held regs k) memory log step (means decoded) leads
@@ -41,7 +42,7 @@ pub returns-in-0 : goal.returns-in-0
 returns-in-0 c =
     accesses c.args.regs.now c.args.memory.now c.args.log.now c.args.k c.args.step c.args.h
     (search rules) c.bits.ensures 0 c.in-0.is refl (is_halt _)
-    (c.execute_halt.ensures c.args.regs.now c.args.memory.now c.args.log.now c.args.step c.requires.0)
+    (c.execute_halt.ensures c.args.regs.now c.args.memory.now c.args.log.now c.args.step c.told-regs)
 
 pub returns-in-4 : goal.returns-in-4
 unfolding execute_of
@@ -98,4 +99,4 @@ returns-in_default c =
     (is_branch_or_none c.args.h (search rules) c.bits.result c.bits.ensures
     (λ e. omega (arith, e)) (λ e. omega (arith, e)) (λ e. omega (arith, e)) (λ e. omega (arith, e))
     (λ e. omega (arith, e)) (λ e. omega (arith, e)) (λ e. omega (arith, e)) (λ e. omega (arith, e)))
-    (c.execute_branch.ensures c.args.regs.now c.args.memory.now c.args.log.now c.args.step c.requires.0)
+    (c.execute_branch.ensures c.args.regs.now c.args.memory.now c.args.log.now c.args.step c.told-regs)
