@@ -5,5 +5,5 @@
 mod answers;
 mod instructions;
 
-pub use answers::{checked_word, given_word, loaded_word, packed_number, verdict_word};
+pub use answers::{answer_word, given_word, packed_number};
 pub use instructions::encoded_word;

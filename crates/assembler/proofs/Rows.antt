@@ -16,8 +16,6 @@ use Rattle.refusals.specs.declared.refusal.Refusal.{Refusal}
 use Rattle.isa.specs.declared.instruction.Instruction.{Instruction}
 use Rattle.isa.specs.declared.instruction.Instruction.TheVariants.{CmpHigh}
 use Rattle.isa.specs.declared.instruction.Instruction.TheVariants.{Branch, Halt}
-use Rattle.isa.specs.declared.encoder.Encoded.{Encoded}
-use Rattle.isa.specs.declared.encoder.Encoded.TheVariants.{Halfword, Refused}
 use Rattle.isa.specs.Encode as Encode
 use Rattle.isa.specs.Encode.{encode_of, imm_form, alu_form, high_form, memory_form, add_pc_form, branch_form, halt_form}
 use Rattle.syntax.specs.Syntax.{given}
@@ -26,17 +24,18 @@ use Rattle.assembler.specs.Assemble.{rows, instruction_of, in_fours, in_reach, b
 use Rattle.assembler.specs.Passes.{item_in, field_meaning}
 use Rattle.assembler.specs.declared.fields.Meaning.{Meaning}
 use Rattle.assembler.specs.declared.fields.Meaning.TheVariants as meaning
+use Rattle.std.specs.Prelude.{Result, Ok, Err}
 
 -- what the encoder gives
-pub encoded_is : (i : Instruction) {e : Encoded} {h : ℕ} → e ≡ encode_of i → e ≡ Halfword h
+pub encoded_is : (i : Instruction) {e : (Result ℕ Refusal)} {h : ℕ} → e ≡ encode_of i → e ≡ Ok h
     → meaning.Halfword h ≡ field_meaning (some i)
 unfolding field_meaning
-encoded_is i p q = ap (λ (x : Encoded). meaning.Halfword (halfword_in x)) (sym q ∙ p)
+encoded_is i p q = ap (λ (x : Result ℕ Refusal). meaning.Halfword (halfword_in x)) (sym q ∙ p)
 
-pub refused_is : (i : Instruction) {e : Encoded} {r : Refusal} → e ≡ encode_of i → e ≡ Refused r
+pub refused_is : (i : Instruction) {e : (Result ℕ Refusal)} {r : Refusal} → e ≡ encode_of i → e ≡ Err r
     → meaning.Halfword 0 ≡ field_meaning (some i)
 unfolding field_meaning
-refused_is i p q = ap (λ (x : Encoded). meaning.Halfword (halfword_in x)) (sym q ∙ p)
+refused_is i p q = ap (λ (x : Result ℕ Refusal). meaning.Halfword (halfword_in x)) (sym q ∙ p)
 
 -- a test that passed, and one that didn't
 pub fits : (i : Instruction) {r : Meaning} {test : Bool} → test ≡ true → r ≡ field_meaning (some i)
@@ -61,7 +60,7 @@ unfolding field_meaning
 given_as {r} s t x y e same p = subst (λ (b : Bool). r ≡ field_meaning (given b y)) e (p ∙ go s same)
   where
     go : (b : Bool) → (b ≡ true → encode_of x ≡ encode_of y) → field_meaning (given b x) ≡ field_meaning (given b y)
-    go true same = ap (λ (e : Encoded). meaning.Halfword (halfword_in e)) (same refl)
+    go true same = ap (λ (e : Result ℕ Refusal). meaning.Halfword (halfword_in e)) (same refl)
     go false same = refl
 
 -- a branch up, and one down
@@ -103,7 +102,7 @@ module _ (i j condition : ℕ) where
       (rw (lt-leb i (j + 128) (omega arith)) refl)
 
 -- a register as a byte: none but a small one fits its bits
-narrowed : (v bound : ℕ) (f : ℕ → Encoded) → bound ≤ 255
+narrowed : (v bound : ℕ) (f : ℕ → Result ℕ Refusal) → bound ≤ 255
     → Encode.given (ltb (min v 255) bound) (f (min v 255)) ≡ Encode.given (ltb v bound) (f v)
 narrowed v bound f h = ⊎_elim small large (lt_or_ge v 256)
   where
@@ -115,24 +114,24 @@ narrowed v bound f h = ⊎_elim small large (lt_or_ge v 256)
 
 pub imm_narrow : (op a b : ℕ) → imm_form op (min a 255) b ≡ imm_form op a b
 imm_narrow op a b =
-    narrowed a 8 (λ rd. Encode.given (ltb b 256) (Halfword (0x2000 + op * 0x800 + rd * 0x100 + b))) (omega arith)
+    narrowed a 8 (λ rd. Encode.given (ltb b 256) (Ok (0x2000 + op * 0x800 + rd * 0x100 + b))) (omega arith)
 
 pub alu_narrow : (op b a : ℕ) → alu_form op (min b 255) (min a 255) ≡ alu_form op b a
 alu_narrow op b a =
-    narrowed b 8 (λ rs. Encode.given (ltb (min a 255) 8) (Halfword (0x4000 + op * 0x40 + rs * 8 + min a 255)))
+    narrowed b 8 (λ rs. Encode.given (ltb (min a 255) 8) (Ok (0x4000 + op * 0x40 + rs * 8 + min a 255)))
     (omega arith)
-    ∙ ap (Encode.given (ltb b 8)) (narrowed a 8 (λ rd. Halfword (0x4000 + op * 0x40 + b * 8 + rd)) (omega arith))
+    ∙ ap (Encode.given (ltb b 8)) (narrowed a 8 (λ rd. Ok (0x4000 + op * 0x40 + b * 8 + rd)) (omega arith))
 
 abbrev high : ℕ → ℕ → ℕ → ℕ
 high op rs rd = 0x4400 + op * 0x100 + rd / 8 * 0x80 + rs / 8 * 0x40 + rs % 8 * 8 + rd % 8
 
 pub high_narrow : (op b a : ℕ) → high_form op (min b 255) (min a 255) ≡ high_form op b a
 high_narrow op b a =
-    narrowed b 16 (λ rs. Encode.given (ltb (min a 255) 16) (Halfword (high op rs (min a 255)))) (omega arith)
-    ∙ ap (Encode.given (ltb b 16)) (narrowed a 16 (λ rd. Halfword (high op b rd)) (omega arith))
+    narrowed b 16 (λ rs. Encode.given (ltb (min a 255) 16) (Ok (high op rs (min a 255)))) (omega arith)
+    ∙ ap (Encode.given (ltb b 16)) (narrowed a 16 (λ rd. Ok (high op b rd)) (omega arith))
 
 -- the order of tests is no matter
-inward : (s t u : Bool) (e : Encoded)
+inward : (s t u : Bool) (e : Result ℕ Refusal)
     → Encode.given s (Encode.given t (Encode.given u e)) ≡ Encode.given t (Encode.given u (Encode.given s e))
 inward true true true e = refl
 inward true true false e = refl
@@ -145,27 +144,27 @@ pub cmp_narrow : (b a : ℕ) → encode_of (CmpHigh (min b 255) (min a 255)) ≡
 cmp_narrow b a =
     let rs = min b 255 in
     let rd = min a 255 in
-    inward (ltb 7 (max rs rd)) (ltb rs 16) (ltb rd 16) (Halfword (high 1 rs rd))
-    ∙ narrowed b 16 (λ x. Encode.given (ltb rd 16) (Encode.given (ltb 7 (max x rd)) (Halfword (high 1 x rd))))
+    inward (ltb 7 (max rs rd)) (ltb rs 16) (ltb rd 16) (Ok (high 1 rs rd))
+    ∙ narrowed b 16 (λ x. Encode.given (ltb rd 16) (Encode.given (ltb 7 (max x rd)) (Ok (high 1 x rd))))
     (omega arith)
     ∙ ap (Encode.given (ltb b 16))
-    (narrowed a 16 (λ x. Encode.given (ltb 7 (max b x)) (Halfword (high 1 b x))) (omega arith))
-    ∙ sym (inward (ltb 7 (max b a)) (ltb b 16) (ltb a 16) (Halfword (high 1 b a)))
+    (narrowed a 16 (λ x. Encode.given (ltb 7 (max b x)) (Ok (high 1 b x))) (omega arith))
+    ∙ sym (inward (ltb 7 (max b a)) (ltb b 16) (ltb a 16) (Ok (high 1 b a)))
 
 pub memory_narrow : (op offset b a : ℕ) → memory_form op offset (min b 255) (min a 255) ≡ memory_form op offset b a
 memory_narrow op offset b a =
     ap (Encode.given (ltb offset 32))
     (narrowed b 8 (λ rb. Encode.given (ltb (min a 255) 8)
-    (Halfword (0x6000 + op * 0x800 + offset * 0x40 + rb * 8 + min a 255))) (omega arith)
+    (Ok (0x6000 + op * 0x800 + offset * 0x40 + rb * 8 + min a 255))) (omega arith)
     ∙ ap (Encode.given (ltb b 8))
-    (narrowed a 8 (λ rd. Halfword (0x6000 + op * 0x800 + offset * 0x40 + b * 8 + rd)) (omega arith)))
+    (narrowed a 8 (λ rd. Ok (0x6000 + op * 0x800 + offset * 0x40 + b * 8 + rd)) (omega arith)))
 
 pub pc_narrow : (a v : ℕ) → add_pc_form (min a 255) v ≡ add_pc_form a v
-pc_narrow a v = narrowed a 8 (λ rd. Encode.given (ltb v 256) (Halfword (0xa000 + rd * 0x100 + v))) (omega arith)
+pc_narrow a v = narrowed a 8 (λ rd. Encode.given (ltb v 256) (Ok (0xa000 + rd * 0x100 + v))) (omega arith)
 
 branch_narrow : (a v : ℕ) → branch_form (min a 255) v ≡ branch_form a v
 branch_narrow a v =
-    narrowed a 14 (λ cd. Encode.given (ltb v 256) (Halfword (0xd000 + cd * 0x100 + v))) (omega arith)
+    narrowed a 14 (λ cd. Encode.given (ltb v 256) (Ok (0xd000 + cd * 0x100 + v))) (omega arith)
 
 -- past the end of the rows
 nothing : (l : List (Option Instruction)) (n : ℕ) → length l ≤ n → get_or l n none ≡ none
@@ -209,7 +208,7 @@ module _ (x : Item) (i j : ℕ) where
   registers n F {r} {rs} {rd} same is e s d p =
       let alike : encode_of (F rs rd) ≡ encode_of (F b a) = ap₂ (λ (y z : ℕ). encode_of (F y z)) s d ∙ same b a in
       at_row n e (subst (λ (o : Option Instruction). r ≡ field_meaning o) is
-      (p ∙ ap (λ (h : Encoded). meaning.Halfword (halfword_in h)) alike))
+      (p ∙ ap (λ (h : Result ℕ Refusal). meaning.Halfword (halfword_in h)) alike))
 
   -- a register and a value that was tested
   pub immediate : (n : ℕ) (F : ℕ → ℕ → Instruction) (test : Bool) (v : ℕ) {r : Meaning} {rd imm : ℕ}

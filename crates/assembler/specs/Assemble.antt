@@ -5,12 +5,12 @@ use Rattle.isa.specs.declared.instruction.Instruction.{Instruction}
 use Rattle.isa.specs.declared.instruction.Instruction.TheVariants.{MovImm, CmpImm, And, Eor, Asr, Tst, Neg, Cmp}
 use Rattle.isa.specs.declared.instruction.Instruction.TheVariants.{AddHigh, CmpHigh, MovHigh, Str, Ldr, Strb, Ldrb}
 use Rattle.isa.specs.declared.instruction.Instruction.TheVariants.{AddPc, Branch, Halt}
-use Rattle.isa.specs.declared.encoder.Encoded.{Encoded}
-use Rattle.isa.specs.declared.encoder.Encoded.TheVariants.{Halfword, Refused}
 use Rattle.isa.specs.Encode.{encode_of}
 use Rattle.image.specs.Format.{most_code}
 use Rattle.text.specs.Text.{Text, Lines, remainder, line, lines_of}
 use Rattle.syntax.specs.Syntax.{Item, parse, given, label_row, branch_row}
+use Rattle.std.specs.Prelude.{Result, Ok, Err}
+use Rattle.refusals.specs.declared.refusal.Refusal.{Refusal}
 
 -- 21: what the lines say from line k on, or the number of the first that is none. What has no line feed is no line
 pub data Read : Type 0 where
@@ -146,9 +146,9 @@ check_from items k i [] = Code []
 check_from items k i (x ∷ xs) = saying k (said_at items k i x) (check_from items (suc k) (next_number x i) xs)
 
 -- the halfwords of instructions
-abbrev pub halfword_in : Encoded → ℕ
-halfword_in (Halfword h) = h
-halfword_in (Refused r) = 0
+abbrev pub halfword_in : Result ℕ Refusal → ℕ
+halfword_in (Ok h) = h
+halfword_in (Err r) = 0
 
 abbrev pub halfwords_of : List Instruction → List ℕ
 halfwords_of [] = []

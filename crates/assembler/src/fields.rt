@@ -6,7 +6,7 @@ ghost use Rattle.syntax.specs.Syntax.{given};
 ghost use Rattle.assembler.specs.Assemble.{instruction_of, in_fours, in_reach, branch_byte};
 ghost use Rattle.assembler.specs.Passes.{item_in, field_meaning};
 
-use isa::{Encoded, Instruction, encode};
+use isa::{Instruction, encode};
 use syntax::Item;
 
 // What a line says: nothing to put into the code, a halfword, or the number of
@@ -32,8 +32,8 @@ fn encoded(i: Instruction) -> Meaning
 {
     let halfword = encode(i);
     match halfword {
-        Encoded::Halfword(h) => Meaning::Halfword(h),
-        Encoded::Refused(_) => Meaning::Halfword(0),
+        Ok(h) => Meaning::Halfword(h),
+        Err(_) => Meaning::Halfword(0),
     }
 }
 

@@ -1,3 +1,3 @@
 pub mod State
 pub mod Questions
-pub mod Numbers
+pub mod Parts

@@ -1,29 +1,27 @@
 -- Checks 9 to 14 of an instruction ("The questions"). `base` is the abstract value of its base register before
 -- it; the layout has c, the code's length in bytes, and w and l, the window's start and length.
 use Rattle.std.specs.Prelude.{Bool, true, false, cond, not, ◌&&◌, List, [], ◌∷◌, ℕ, zero, suc, ◌+◌, eqb, leb, ltb}
+use Rattle.refusals.specs.declared.check.Check.{Check}
+use Rattle.refusals.specs.declared.check.Check.TheVariants as check
 use Rattle.refusals.specs.Refusal.{refusal_at}
 use Rattle.units.specs.declared.address.ByteAddress.{ByteAddress}
-use Rattle.isa.specs.declared.decoder.Decoded.{Decoded}
-use Rattle.isa.specs.declared.decoder.Decoded.TheVariants.{Defined, Undefined}
 use Rattle.isa.specs.declared.instruction.Instruction.{Instruction}
 use Rattle.isa.specs.declared.instruction.Instruction.TheVariants.{MovImm, CmpImm, And, Eor, Asr, Tst, Neg, Cmp}
 use Rattle.isa.specs.declared.instruction.Instruction.TheVariants.{AddHigh, CmpHigh, MovHigh, Str, Ldr, Strb, Ldrb}
 use Rattle.isa.specs.declared.instruction.Instruction.TheVariants.{AddPc, Branch, Halt}
 use Rattle.image.specs.Check.{Asked}
-use Rattle.image.specs.declared.answer.Answer.{Answer}
-use Rattle.image.specs.declared.answer.Answer.TheVariants.{Pass, Refused}
 use Rattle.image.specs.declared.checker.Layout.{Layout}
 use Rattle.domain.specs.declared.value.Value.{Value}
-use Rattle.targets.specs.declared.branch.Target.{Target}
-use Rattle.targets.specs.declared.branch.Target.TheVariants.{To, Nowhere}
 use Rattle.targets.specs.Jumps.{jump_of}
 use Rattle.isa.specs.Access.{Access, access_of}
 use Rattle.checks.specs.State.{State, pc_register, value}
+use Rattle.std.specs.Prelude.{Option, Some, None, Result, Ok, Err, ⊤}
+use Rattle.refusals.specs.declared.refusal.Refusal.{Refusal}
 
 -- 9: the halfword is an instruction
-abbrev pub check9 : Decoded → Bool
-check9 (Defined i) = true
-check9 Undefined = false
+abbrev pub check9 : Option Instruction → Bool
+check9 (Some i) = true
+check9 None = false
 
 -- 10: the data of a load or store is in the window, whatever number its base register is. The sums are of
 -- unbounded numbers: an address that would wrap is past the window
@@ -59,9 +57,9 @@ check12 (Branch condition offset) = true
 check12 (Halt note) = true
 
 -- the address that a jump goes to is below c
-abbrev pub stays_in_code : Layout → Target → Bool
-stays_in_code layout (To a) = ltb a.0 layout.code_bytes
-stays_in_code layout Nowhere = true
+abbrev pub stays_in_code : Layout → Option ByteAddress → Bool
+stays_in_code layout (Some a) = ltb a.0 layout.code_bytes
+stays_in_code layout None = true
 
 -- 13: a branch goes to an address of the code. One that leads below address 0 comes round to a high address,
 -- which is never below c
@@ -73,27 +71,26 @@ abbrev pub check14 : Bool → ℕ → Bool
 check14 is_last h = cond is_last (ltb h 256) true
 
 -- a check of the instruction at an address
-abbrev pub at_address : ByteAddress → ℕ → Bool → Asked
-at_address a number test = record { passed = test; otherwise = refusal_at number a }
+abbrev pub at_address : ByteAddress → Check → Bool → Asked
+at_address a check test = record { passed = test; otherwise = refusal_at check a }
 
 -- what is put to an instruction, in order
 abbrev pub defined_checks : Value → Layout → ByteAddress → Bool → ℕ → Instruction → List Asked
 defined_checks base layout a is_last h i =
-    at_address a 10 (check10 base layout (access_of i))
-    ∷ at_address a 11 (check11 base (access_of i))
-    ∷ at_address a 12 (check12 i)
-    ∷ at_address a 13 (check13 layout a i)
-    ∷ at_address a 14 (check14 is_last h)
+    at_address a check.Access (check10 base layout (access_of i))
+    ∷ at_address a check.Alignment (check11 base (access_of i))
+    ∷ at_address a check.PcWrite (check12 i)
+    ∷ at_address a check.Target (check13 layout a i)
+    ∷ at_address a check.LastHalt (check14 is_last h)
     ∷ []
 
 -- what is put to the halfword h at an address, decoded as given; where it is undefined, nothing after check 9
-abbrev pub halfword_checks : State → Layout → ByteAddress → Bool → ℕ → Decoded → List Asked
-halfword_checks s layout a is_last h Undefined = at_address a 9 (check9 Undefined) ∷ []
-halfword_checks s layout a is_last h (Defined i) =
-    at_address a 9 (check9 (Defined i)) ∷ defined_checks (value s (access_of i).base) layout a is_last h i
+abbrev pub halfword_checks : State → Layout → ByteAddress → Bool → ℕ → Option Instruction → List Asked
+halfword_checks s layout a is_last h None = at_address a check.Defined (check9 None) ∷ []
+halfword_checks s layout a is_last h (Some i) =
+    at_address a check.Defined (check9 (Some i)) ∷ defined_checks (value s (access_of i).base) layout a is_last h i
 
--- what a number says of the checks of the instruction at an address: 0 that all have passed, else which is the
--- first that has not
-abbrev pub answer_at : ByteAddress → ℕ → Answer
-answer_at a zero = Pass
-answer_at a (suc n) = Refused (refusal_at (suc n) a)
+-- what the checks of the instruction at an address come to, where the first that fails, if one does, is known
+abbrev pub answer_at : ByteAddress → Result ⊤ Check → Result ⊤ Refusal
+answer_at a (Ok passed) = Ok passed
+answer_at a (Err check) = Err (refusal_at check a)

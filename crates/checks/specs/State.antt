@@ -1,10 +1,8 @@
 -- The abstract state ("Facts the judge carries"): an abstract value for each register, and what an instruction
 -- makes of them.
-use Rattle.std.specs.Prelude.{List, ℕ, get_or, set, replicate}
+use Rattle.std.specs.Prelude.{List, ℕ, get_or, set, replicate, Option, Some, None}
 use Rattle.units.specs.Address.{pc_sum}
 use Rattle.units.specs.declared.address.ByteAddress.{ByteAddress}
-use Rattle.isa.specs.declared.decoder.Decoded.{Decoded}
-use Rattle.isa.specs.declared.decoder.Decoded.TheVariants.{Defined, Undefined}
 use Rattle.isa.specs.declared.instruction.Instruction.{Instruction}
 use Rattle.isa.specs.declared.instruction.Instruction.TheVariants.{MovImm, CmpImm, And, Eor, Asr, Tst, Neg, Cmp}
 use Rattle.isa.specs.declared.instruction.Instruction.TheVariants.{AddHigh, CmpHigh, MovHigh, Str, Ldr, Strb, Ldrb}
@@ -59,6 +57,6 @@ transfer_of a (Branch condition offset) s = s
 transfer_of a (Halt note) s = s
 
 -- an undefined halfword changes nothing: the code is refused there
-abbrev pub after_of : ByteAddress → Decoded → State → State
-after_of a (Defined i) s = transfer_of a i s
-after_of a Undefined s = s
+abbrev pub after_of : ByteAddress → Option Instruction → State → State
+after_of a (Some i) s = transfer_of a i s
+after_of a None s = s

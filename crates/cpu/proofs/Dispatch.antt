@@ -1,10 +1,10 @@
 -- What the bits tell by which the code sends a halfword to its function, where the definition goes by the top three.
 use Rattle.std.proofs.Common.{◌≡◌, ℕ, zero, suc, ◌+◌, ◌*◌, ◌/◌, ◌%◌, ◌<◌, ◌≤◌, Bool, true, false, eqb, ltb, sym, refl}
 use Rattle.std.proofs.Common.{ap, ◌∙◌, arith, lit<, ltb-true, le-ltb, lt-ltb, ne_eqb, eqb-true}
+use Rattle.std.specs.Prelude.{Some, None}
 use borrow.Author.Tests.{eqb-false}
 use Rattle.units.specs.Field.{field, high_rs, high_rd}
 use Rattle.isa.specs.Decode.{entry, imm_table, alu_table, high_table, table, decode_of}
-use Rattle.isa.specs.declared.decoder.Decoded.TheVariants.{Defined, Undefined}
 use Rattle.isa.specs.declared.instruction.Instruction.TheVariants.{AddHigh, CmpHigh, MovHigh, Branch}
 use Rattle.isa.proofs.Table.{entry_past, skip}
 use Rattle.isa.proofs.Formats.{parts, no_memory}
@@ -59,43 +59,43 @@ module _ (h : ℕ) (fits : h < 65536) where
   low_rd : h / 64 % 4 ≡ 0 → high_rd h ≡ field h 0 3
   low_rd z = let d : field h 7 1 ≡ 0 = omega arith in omega (arith, d)
 
-  pub is_low_add : h / 64 ≡ 272 → decode_of h ≡ Defined (AddHigh (field h 3 3) (field h 0 3))
+  pub is_low_add : h / 64 ≡ 272 → decode_of h ≡ Some (AddHigh (field h 3 3) (field h 0 3))
   is_low_add e = is_high 0 0 (lit< tt) (lit< tt) e ∙ rw (low_rs (omega arith), low_rd (omega arith))
 
-  pub is_low_mov : h / 64 ≡ 280 → decode_of h ≡ Defined (MovHigh (field h 3 3) (field h 0 3))
+  pub is_low_mov : h / 64 ≡ 280 → decode_of h ≡ Some (MovHigh (field h 3 3) (field h 0 3))
   is_low_mov e = is_high 2 0 (lit< tt) (lit< tt) e ∙ rw (low_rs (omega arith), low_rd (omega arith))
 
   -- a comparison, which has H1 or H2
   pub is_cmp : (halves : ℕ) → 0 < halves → halves < 4 → h / 64 ≡ 276 + halves
-      → decode_of h ≡ Defined (CmpHigh (high_rs h) (high_rd h))
+      → decode_of h ≡ Some (CmpHigh (high_rs h) (high_rd h))
   is_cmp halves some two e =
       let z : 0 < field h 6 2 = omega (arith, halves_are 1 halves (lit< tt) two e) in
       is_high 1 halves (lit< tt) two e ∙ simp (lt-ltb 0 (field h 6 2) z)
 
   -- no operation on registers is left
   module _ (x : ℕ) (told : x ≡ h / 64) (f : field h 13 3 ≡ 2) where
-    no_alu : 262 ≤ x → field h 10 3 ≡ 0 → decode_of h ≡ Undefined
+    no_alu : 262 ≤ x → field h 10 3 ≡ 0 → decode_of h ≡ None
     no_alu past g = let p : 6 ≤ field h 6 4 = omega arith in rw (f, g) (entry_past (alu_table h) (field h 6 4) p)
 
-    no_cmp : x ≡ 276 → decode_of h ≡ Undefined
+    no_cmp : x ≡ 276 → decode_of h ≡ None
     no_cmp e =
         let z : field h 6 2 ≡ 0 = halves_are 1 0 (lit< tt) (lit< tt) (sym told ∙ e) in
         is_high 1 0 (lit< tt) (lit< tt) (sym told ∙ e) ∙ simp z
 
-    no_high : 284 ≤ x → field h 10 3 ≡ 1 → decode_of h ≡ Undefined
+    no_high : 284 ≤ x → field h 10 3 ≡ 1 → decode_of h ≡ None
     no_high past g = let o : field h 8 2 ≡ 3 = omega arith in simp (f, g, o)
 
-    no_registers : (256 ≤ x → 262 ≤ x) → (272 ≤ x → 276 ≤ x) → (277 ≤ x → 284 ≤ x) → decode_of h ≡ Undefined
+    no_registers : (256 ≤ x → 262 ≤ x) → (272 ≤ x → 276 ≤ x) → (277 ≤ x → 284 ≤ x) → decode_of h ≡ None
     no_registers alu add rest = by_half (field h 10 3) refl
       where
-        high : field h 10 3 ≡ 1 → (t : Bool) → eqb x 276 ≡ t → decode_of h ≡ Undefined
+        high : field h 10 3 ≡ 1 → (t : Bool) → eqb x 276 ≡ t → decode_of h ≡ None
         high g true e = no_cmp (eqb-true x 276 e)
         high g false e =
             let other : Not x 276 = eqb-false x 276 e in
             let from : 272 ≤ x = omega arith in
             no_high (rest (skip 276 (add from) other)) g
 
-        by_half : (n : ℕ) → field h 10 3 ≡ n → decode_of h ≡ Undefined
+        by_half : (n : ℕ) → field h 10 3 ≡ n → decode_of h ≡ None
         by_half zero g = let from : 256 ≤ x = omega arith in no_alu (alu from) g
         by_half (suc zero) g = high g (eqb x 276) refl
         by_half (suc (suc n)) g = rw (f, g)
@@ -143,7 +143,7 @@ module _ (h : ℕ) (fits : h < 65536) where
           (ap (entry (table h)) f)
 
   -- the upper byte of a branch
-  pub is_branch : (n : ℕ) → n < 14 → field h 8 8 ≡ 208 + n → branch_else h ≡ Defined (Branch n (field h 0 8))
+  pub is_branch : (n : ℕ) → n < 14 → field h 8 8 ≡ 208 + n → branch_else h ≡ Some (Branch n (field h 0 8))
   is_branch n small e =
       let f : field h 13 3 ≡ 6 = omega arith in
       let g : field h 12 1 ≡ 1 = omega arith in
@@ -160,7 +160,7 @@ module _ (h : ℕ) (fits : h < 65536) where
   pub is_none : {B : Type 0} (x : ℕ) → x ≡ field h 8 8
       → (((((((((((((B × Not x 208) × Not x 209) × Not x 210) × Not x 211) × Not x 212) × Not x 213) × Not x 214)
       × Not x 215) × Not x 216) × Not x 217) × Not x 218) × Not x 219) × Not x 220) × Not x 221
-      → branch_else h ≡ Undefined
+      → branch_else h ≡ None
   is_none x told n = by_format (eqb (field h 13 3) 6) refl
     where
       past : 208 ≤ x → 222 ≤ x
@@ -183,17 +183,17 @@ module _ (h : ℕ) (fits : h < 65536) where
           ) depth 16
 
       by_condition : field h 13 3 ≡ 6 → field h 12 1 ≡ 1 → (t : Bool) → ltb (field h 8 4) 14 ≡ t
-          → branch_else h ≡ Undefined
+          → branch_else h ≡ None
       by_condition f g true e =
           let small : field h 8 4 < 14 = ltb-true (field h 8 4) 14 e in
           let is : x ≡ 208 + field h 8 4 = told ∙ upper_is f g in
           absurd (not_past x (field h 8 4) small is (past (from_first x (field h 8 4) is)))
       by_condition f g false e = simp (f, g, e)
 
-      by_bit : field h 13 3 ≡ 6 → (t : Bool) → eqb (field h 12 1) 1 ≡ t → branch_else h ≡ Undefined
+      by_bit : field h 13 3 ≡ 6 → (t : Bool) → eqb (field h 12 1) 1 ≡ t → branch_else h ≡ None
       by_bit f true e = by_condition f (eqb-true (field h 12 1) 1 e) (ltb (field h 8 4) 14) refl
       by_bit f false e = simp (f, e)
 
-      by_format : (t : Bool) → eqb (field h 13 3) 6 ≡ t → branch_else h ≡ Undefined
+      by_format : (t : Bool) → eqb (field h 13 3) 6 ≡ t → branch_else h ≡ None
       by_format true e = by_bit (eqb-true (field h 13 3) 6 e) (eqb (field h 12 1) 1) refl
       by_format false e = simp e

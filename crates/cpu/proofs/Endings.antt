@@ -1,13 +1,13 @@
 -- How a step may end: it completes, it sets the note at HALT, or it leaves everything as it was.
 use Rattle.std.proofs.Common.{◌≡◌, ℕ, ◌*◌, ◌%◌, Bool, true, false, cond, eqb, ◌⊎◌, List, length, sym, refl, ap, ◌∙◌}
 use Rattle.std.proofs.Common.{inl, inr, ⊎_elim, arith}
+use Rattle.std.specs.Prelude.{Option, Some, None}
 use Rattle.units.specs.Address.{memory_bytes}
 use Rattle.units.specs.Bytes.{halfword_at, with_halfword}
 use Rattle.units.proofs.Cases.{clash}
+use Rattle.refusals.specs.declared.check.Check.TheVariants as check
 use Rattle.refusals.specs.Refusal.{refusal}
 use Rattle.refusals.specs.declared.refusal.Refusal.{Refusal}
-use Rattle.isa.specs.declared.decoder.Decoded.{Decoded}
-use Rattle.isa.specs.declared.decoder.Decoded.TheVariants.{Defined, Undefined}
 use Rattle.isa.specs.declared.instruction.Instruction.{Instruction}
 use Rattle.isa.specs.declared.instruction.Instruction.TheVariants.{MovImm, CmpImm, And, Eor, Asr, Tst, Neg, Cmp}
 use Rattle.isa.specs.declared.instruction.Instruction.TheVariants.{AddHigh, CmpHigh, MovHigh, Str, Ldr, Strb, Ldrb}
@@ -87,22 +87,22 @@ module _ (m : Machine) (memory : List ℕ) where
   abbrev low : ℕ
   low = low_byte (record { machine = m; memory = memory })
 
-  decoded_whole : (d : Decoded) → fetched m memory ≡ d → Ending low m memory (execute_decoded d m memory)
+  decoded_whole : (d : Option Instruction) → fetched m memory ≡ d → Ending low m memory (execute_decoded d m memory)
   unfolding fetched
-  decoded_whole (Defined i) e =
+  decoded_whole (Some i) e =
       execute_whole low i m memory
-      (λ own is. let halt = halt_own (halfword_at memory (pc m)) own (e ∙ ap Defined is) in omega (arith, halt))
-  decoded_whole Undefined e = inr (inr (refl, stopped_not_halted stop.Undefined))
+      (λ own is. let halt = halt_own (halfword_at memory (pc m)) own (e ∙ ap Some is) in omega (arith, halt))
+  decoded_whole None e = inr (inr (refl, stopped_not_halted stop.Undefined))
 
   pub how_ends : Ending low m memory (step_of m memory)
   unfolding step_of fetch_and_execute
   how_ends =
       cond_keeps (Ending low m memory) (eqb (length memory) memory_bytes)
-      (fetch_and_execute m memory) (step_result m memory (Refused (refusal 1)))
+      (fetch_and_execute m memory) (step_result m memory (Refused (refusal check.MemorySize)))
       (cond_keeps (Ending low m memory) (eqb (pc m % 2) 0)
       (execute_decoded (fetched m memory) m memory) (stopped stop.OddPc m memory)
       (decoded_whole (fetched m memory) refl) (inr (inr (refl, stopped_not_halted stop.OddPc))))
-      (inr (inr (refl, refused_not_halted (refusal 1))))
+      (inr (inr (refl, refused_not_halted (refusal check.MemorySize))))
 
   -- a step that ends by HALT has set the note, and nothing else
   pub halted_step : (step_of m memory).outcome ≡ Halted → Halts low m memory (step_of m memory)

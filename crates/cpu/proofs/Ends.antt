@@ -1,5 +1,5 @@
 -- How the ends of instructions leave a machine held.
-use Rattle.std.proofs.Common.{◌≡◌, ℕ, ◌+◌, ◌<◌, List, get_or, set, sym, ap, ◌∙◌, ap₂, arith, length-set}
+use Rattle.std.proofs.Common.{◌≡◌, ℕ, ◌+◌, ◌<◌, List, get_or, set, sym, ap, ◌∙◌, ap₂, arith}
 use Rattle.std.proofs.Common.{get_or-set_other, get_or-set_same, set-set}
 use lib.Seq.{set_comm}
 use Rattle.units.specs.Address.{wrap}

@@ -1,10 +1,9 @@
 -- How the function of a halfword's format ends.
 use Rattle.std.proofs.Common.{◌≡◌, ℕ, ◌+◌, ◌<◌, ◌≤◌, Bool, true, false, List, sym, refl, ◌∙◌, set-set, le-ltb, lt-ltb}
+use Rattle.std.specs.Prelude.{Option, None}
 use Rattle.units.specs.Address.{branch_target_of}
 use Rattle.units.specs.Field.{field}
 use Rattle.isa.specs.Decode.{halt_of}
-use Rattle.isa.specs.declared.decoder.Decoded.{Decoded}
-use Rattle.isa.specs.declared.decoder.Decoded.TheVariants.{Undefined}
 use Rattle.alu.specs.declared.control.Control.{Control}
 use Rattle.cpu.specs.declared.held.Executed.{Executed}
 use Rattle.cpu.specs.declared.machine.Machine.{Machine}
@@ -18,6 +17,7 @@ use Rattle.cpu.specs.Held.{held, branched, Told, told_decoded, Whole, Leads, Bes
 use Rattle.cpu.proofs.Ends.{pc_is, moved_on}
 use Rattle.cpu.proofs.Access.{Gave, leads, stays}
 use Rattle.cpu.proofs.Dispatch.{is_branch}
+use Rattle.isa.specs.declared.instruction.Instruction.{Instruction}
 
 -- a completed step that touched no data
 abbrev pub quiet : Machine → List ℕ → Log → Told
@@ -25,20 +25,20 @@ quiet m memory log = record { result = completed m memory; log = log }
 
 -- what a halfword does whose meaning is known
 module _ (first : Machine) (memory : List ℕ) (log : Log) (step : ℕ) where
-  pub leads_as : {d known : Decoded} {regs memory' : List ℕ} {log' : Log} {e : Executed}
+  pub leads_as : {d known : Option Instruction} {regs memory' : List ℕ} {log' : Log} {e : Executed}
       → d ≡ known
       → Leads regs e memory' log' (told_decoded known first memory step log)
       → Leads regs e memory' log' (told_decoded d first memory step log)
   leads_as is done = rw is done
 
   -- an instruction that leaves memory and log alone
-  pub arm : {d known : Decoded} {regs : List ℕ} {e : Executed} {k : Control} {m : Machine} → d ≡ known
+  pub arm : {d known : Option Instruction} {regs : List ℕ} {e : Executed} {k : Control} {m : Machine} → d ≡ known
       → told_decoded known first memory step log ≡ quiet m memory log → Gave e k Completed → held regs k ≡ m
       → Leads regs e memory log (told_decoded d first memory step log)
   arm {regs = regs} is does gave holds = rw (is, does) (leads regs memory log gave holds)
 
 -- a halfword that means nothing
-pub none : (d : Decoded) (k : Control) (e : Executed) → d ≡ Undefined → Gave e k (Stopped stop.Undefined) → Beside e k d
+pub none : (d : Option Instruction) (k : Control) (e : Executed) → d ≡ None → Gave e k (Stopped stop.Undefined) → Beside e k d
 none d k e is gave regs memory log step whole = rw is (stays regs memory log gave)
 
 pub halts : (h : ℕ) (k : Control) → h < 256 → Beside (record { control = k; outcome = Halted }) k (halt_of h)

@@ -1,9 +1,8 @@
 -- No instruction looks at the note. A step from another note ends as it did, with the same registers, flags and memory,
 -- and the note is that other one unless HALT has left its own.
 use Rattle.std.proofs.Common.{◌≡◌, ℕ, ◌*◌, ◌%◌, Bool, true, false, cond, eqb, List, length, sym, refl, ap, ◌∙◌, ap₂}
+use Rattle.std.specs.Prelude.{Option, Some, None}
 use Rattle.units.specs.Address.{memory_bytes}
-use Rattle.isa.specs.declared.decoder.Decoded.{Decoded}
-use Rattle.isa.specs.declared.decoder.Decoded.TheVariants.{Defined, Undefined}
 use Rattle.isa.specs.declared.instruction.Instruction.{Instruction}
 use Rattle.isa.specs.declared.instruction.Instruction.TheVariants.{MovImm, CmpImm, And, Eor, Asr, Tst, Neg, Cmp}
 use Rattle.isa.specs.declared.instruction.Instruction.TheVariants.{AddHigh, CmpHigh, MovHigh, Str, Ldr, Strb, Ldrb}
@@ -60,9 +59,9 @@ module _ (n : ℕ) (m : Machine) (memory : List ℕ) where
   execute_note (Branch condition offset) = refl
   execute_note (Halt note) = refl
 
-  decoded_note : (d : Decoded) → execute_decoded d (with_note n m) memory ≡ relabelled n (execute_decoded d m memory)
-  decoded_note (Defined i) = execute_note i
-  decoded_note Undefined = refl
+  decoded_note : (d : Option Instruction) → execute_decoded d (with_note n m) memory ≡ relabelled n (execute_decoded d m memory)
+  decoded_note (Some i) = execute_note i
+  decoded_note None = refl
 
   pub step_note : step_of (with_note n m) memory ≡ relabelled n (step_of m memory)
   unfolding step_of fetch_and_execute fetched
@@ -76,9 +75,9 @@ unfolding step_traffic fetched
 traffic_note n m memory =
     ap₂ when_completed (ap (λ (r : StepResult). r.outcome) (step_note n m memory)) (decoded (fetched m memory))
   where
-    decoded : (d : Decoded) → decoded_traffic d (with_note n m) ≡ decoded_traffic d m
-    decoded (Defined i) = refl
-    decoded Undefined = refl
+    decoded : (d : Option Instruction) → decoded_traffic d (with_note n m) ≡ decoded_traffic d m
+    decoded (Some i) = refl
+    decoded None = refl
 
 -- so a machine with note 0 keeps that unless HALT sets it
 pub bare_step : (m : Machine) (memory : List ℕ) → ((step_of (with_note 0 m) memory).outcome ≡ Halted → ⊥)

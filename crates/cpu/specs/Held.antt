@@ -1,12 +1,10 @@
 -- How the code holds a machine while it works: registers in an array, and by value beside it the PC and the flags. No
 -- instruction looks at the note, so none is held.
 -- Only contracts of functions that are no entry points speak of it.
-use Rattle.std.specs.Prelude.{◌≡◌, ℕ, ◌+◌, Bool, cond, List, length, ◌==◌, slice_set}
+use Rattle.std.specs.Prelude.{◌≡◌, ℕ, ◌+◌, Bool, cond, List, length, ◌==◌, slice_set, Option, None}
 use Rattle.units.specs.Address.{wrap, branch_target_of}
 use Rattle.units.specs.Field.{field}
 use Rattle.isa.specs.Decode.{only, branch_of, decode_of}
-use Rattle.isa.specs.declared.decoder.Decoded.{Decoded}
-use Rattle.isa.specs.declared.decoder.Decoded.TheVariants.{Undefined}
 use Rattle.isa.specs.declared.instruction.Instruction.{Instruction}
 use Rattle.alu.specs.declared.control.Control.{Control}
 use Rattle.alu.specs.Control.{flags_in, moved}
@@ -49,7 +47,7 @@ telling r t step log = record { result = r; log = logged step (when_completed r.
 abbrev pub told_of : Instruction → Machine → List ℕ → ℕ → Log → Told
 told_of i m memory = telling (execute_of i m memory) (traffic_of i m)
 
-abbrev pub told_decoded : Decoded → Machine → List ℕ → ℕ → Log → Told
+abbrev pub told_decoded : Option Instruction → Machine → List ℕ → ℕ → Log → Told
 told_decoded d m memory = telling (execute_decoded d m memory) (decoded_traffic d m)
 
 -- such a result is held
@@ -58,7 +56,7 @@ pub record Leads (regs : List ℕ) (e : Executed) (memory : List ℕ) (log : Log
   pub logs : log ≡ q.log
 
 -- what a halfword does that leaves registers, memory and log alone, whatever they are
-abbrev pub Beside : Executed → Control → Decoded → Type 0
+abbrev pub Beside : Executed → Control → Option Instruction → Type 0
 Beside e k d =
     (regs memory : List ℕ) (log : Log) (step : ℕ) → Whole regs
     → Leads regs e memory log (told_decoded d (held regs k) memory step log)
@@ -69,8 +67,8 @@ branched holds offset k = moved (cond holds (branch_target_of (record { 0 = k.pc
 
 -- what a halfword says where all formats but the branch's have been looked at, and where all but those of registers
 -- are left
-abbrev pub branch_else : ℕ → Decoded
+abbrev pub branch_else : ℕ → Option Instruction
 branch_else h = only (field h 13 3 == 6) (branch_of h)
 
-abbrev pub other_else : ℕ → Decoded
-other_else h = cond (field h 13 3 == 2) Undefined (decode_of h)
+abbrev pub other_else : ℕ → Option Instruction
+other_else h = cond (field h 13 3 == 2) None (decode_of h)

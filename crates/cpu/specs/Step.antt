@@ -1,11 +1,11 @@
 -- One step: what each instruction does, under its page's name and in the manual's order, and then a step as a whole.
 use Rattle.std.specs.Prelude.{ℕ, ◌+◌, ◌*◌, ◌%◌, Bool, cond, List, length, ◌==◌, bit_and, bit_xor, slice_set}
+use Rattle.std.specs.Prelude.{Option, Some, None}
 use Rattle.units.specs.Address.{wrap, branch_target_of, pc_sum, memory_bytes}
+use Rattle.refusals.specs.declared.check.Check.TheVariants as check
 use Rattle.refusals.specs.Refusal.{refusal}
 use Rattle.units.specs.Bytes.{byte_at, halfword_at, with_byte, with_halfword}
 use Rattle.isa.specs.Decode.{decode_of}
-use Rattle.isa.specs.declared.decoder.Decoded.{Decoded}
-use Rattle.isa.specs.declared.decoder.Decoded.TheVariants.{Defined, Undefined}
 use Rattle.isa.specs.declared.instruction.Instruction.{Instruction}
 use Rattle.isa.specs.declared.instruction.Instruction.TheVariants.{MovImm, CmpImm, And, Eor, Asr, Tst, Neg, Cmp}
 use Rattle.isa.specs.declared.instruction.Instruction.TheVariants.{AddHigh, CmpHigh, MovHigh, Str, Ldr, Strb, Ldrb}
@@ -166,12 +166,12 @@ execute_of (Branch condition offset) m memory = completed (branch_of condition o
 execute_of (Halt note) m memory = step_result (with_note note m) memory Halted
 
 -- a halfword that is no instruction: stop 19
-abbrev pub execute_decoded : Decoded → Machine → List ℕ → StepResult
-execute_decoded (Defined i) m memory = execute_of i m memory
-execute_decoded Undefined m memory = stopped stop.Undefined m memory
+abbrev pub execute_decoded : Option Instruction → Machine → List ℕ → StepResult
+execute_decoded (Some i) m memory = execute_of i m memory
+execute_decoded None m memory = stopped stop.Undefined m memory
 
 -- what the halfword at the PC says
-unfoldable pub fetched : Machine → List ℕ → Decoded
+unfoldable pub fetched : Machine → List ℕ → Option Instruction
 fetched m memory = decode_of (halfword_at memory (pc m))
 
 -- the low byte of that halfword, which is HALT's note (Change 1)
@@ -185,4 +185,6 @@ fetch_and_execute m memory = cond (pc m % 2 == 0) (execute_decoded (fetched m me
 -- check 1 comes first: a memory of any other size is refused, and nothing changes
 unfoldable pub step_of : Machine → List ℕ → StepResult
 step_of m memory =
-    cond (length memory == memory_bytes) (fetch_and_execute m memory) (step_result m memory (Refused (refusal 1)))
+    cond (length memory == memory_bytes)
+    (fetch_and_execute m memory)
+    (step_result m memory (Refused (refusal check.MemorySize)))

@@ -1,10 +1,8 @@
 -- What a step touches in memory (Change 2): data that it reads or writes, or none. The halfword that it fetches is no
 -- data.
-use Rattle.std.specs.Prelude.{ℕ, cond, List, ◌==◌}
+use Rattle.std.specs.Prelude.{ℕ, cond, List, ◌==◌, Option, Some, None}
 use Rattle.units.specs.declared.address.ByteAddress.{ByteAddress}
 use Rattle.isa.specs.Access.{Access, access_of}
-use Rattle.isa.specs.declared.decoder.Decoded.{Decoded}
-use Rattle.isa.specs.declared.decoder.Decoded.TheVariants.{Defined, Undefined}
 use Rattle.isa.specs.declared.instruction.Instruction.{Instruction}
 use Rattle.cpu.specs.declared.machine.Machine.{Machine}
 use Rattle.cpu.specs.declared.outcome.Outcome.{Outcome}
@@ -33,9 +31,9 @@ touching access a =
 abbrev pub traffic_of : Instruction → Machine → Traffic
 traffic_of i m = touching (access_of i) (record { 0 = data_address m (access_of i) })
 
-abbrev pub decoded_traffic : Decoded → Machine → Traffic
-decoded_traffic (Defined i) m = traffic_of i m
-decoded_traffic Undefined m = NoData
+abbrev pub decoded_traffic : Option Instruction → Machine → Traffic
+decoded_traffic (Some i) m = traffic_of i m
+decoded_traffic None m = NoData
 
 -- only a completed step tells
 abbrev pub when_completed : Outcome → Traffic → Traffic

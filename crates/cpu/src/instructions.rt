@@ -58,7 +58,7 @@ pub(crate) fn add_high(regs: &mut [u16; 16], k: Control, h: u16) -> Control
 pub(crate) fn add_pc(regs: &mut [u16; 16], k: Control, h: u16) -> Control
     ensures { held regs.new result ≡ add_pc_of (field h 8 3) (field h 0 8) (held regs.old k) }
 {
-    let r = units::pc_sum(ByteAddress(k.pc), bits(h, 0, 8));
+    let r = ByteAddress(k.pc).pc_sum(bits(h, 0, 8));
     write_low(regs, k, bits(h, 8, 3), r)
 }
 
@@ -85,7 +85,7 @@ pub(crate) fn branch(k: Control, holds: bool, h: u16) -> Control
     ensures { result ≡ branched holds (field h 0 8) k }
 {
     if holds {
-        let target = units::branch_target(ByteAddress(k.pc), bits(h, 0, 8));
+        let target = ByteAddress(k.pc).branch_target(bits(h, 0, 8));
         k.moved_to(target.0)
     } else {
         k.advanced()

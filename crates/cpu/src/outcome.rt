@@ -27,7 +27,7 @@ impl From<Stop> for u8 {
 }
 
 // It completed, it met HALT, it stopped, or check 1 refused the memory.
-#[derive(Clone, Copy)]
+#[derive(Clone, Copy, PartialEq, Eq, Debug)]
 pub enum Outcome {
     Completed,
     Halted,

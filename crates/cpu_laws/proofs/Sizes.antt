@@ -1,4 +1,5 @@
 -- Sixteen registers stay sixteen and 16 bits wide, and memory keeps its size and its bytes.
+use Rattle.std.specs.Prelude.{Option, Some, None}
 use mathlib.Core.Bool.{cond}
 use mathlib.Core.List.{List, [], ◌∷◌}
 use mathlib.Core.Path.{◌≡◌, refl, sym, ◌∙◌}
@@ -8,11 +9,10 @@ use native.Mathlib.Omega.{arith}
 use lib.Bits.{bit_and, bit_xor, and_le_l, xor_lt}
 use lib.Dec.{eqb, ltb}
 use lib.ListN.{length, get_or, set, length-set}
+use Rattle.refusals.specs.declared.check.Check.TheVariants as check
 use Rattle.refusals.specs.Refusal.{refusal}
 use Rattle.units.specs.Address.{branch_target_of, memory_bytes}
 use Rattle.units.specs.Bytes.{byte_at, halfword_at, with_byte, with_halfword}
-use Rattle.isa.specs.declared.decoder.Decoded.{Decoded}
-use Rattle.isa.specs.declared.decoder.Decoded.TheVariants.{Defined, Undefined}
 use Rattle.isa.specs.declared.instruction.Instruction.{Instruction}
 use Rattle.isa.specs.declared.instruction.Instruction.TheVariants.{MovImm, CmpImm, And, Eor, Asr, Tst, Neg, Cmp}
 use Rattle.isa.specs.declared.instruction.Instruction.TheVariants.{AddHigh, CmpHigh, MovHigh, Str, Ldr, Strb, Ldrb}
@@ -135,16 +135,16 @@ module _ (m : Machine) (memory : List ℕ) (r : Registers m.regs) (b : Bytes mem
       }
   execute_sized (Halt note) n = record { registers = r; bytes = b }
 
-  decoded_sized : (d : Decoded) → fetched m memory ≡ d → Kept (execute_decoded d m memory)
+  decoded_sized : (d : Option Instruction) → fetched m memory ≡ d → Kept (execute_decoded d m memory)
   unfolding fetched
-  decoded_sized (Defined i) e = execute_sized i (decoded_narrow (halfword_at memory (pc m)) i (sym e))
-  decoded_sized Undefined e = unchanged
+  decoded_sized (Some i) e = execute_sized i (decoded_narrow (halfword_at memory (pc m)) i (sym e))
+  decoded_sized None e = unchanged
 
   result_sized : Kept (step_of m memory)
   unfolding step_of fetch_and_execute
   result_sized =
       cond_keeps Kept (eqb (length memory) memory_bytes)
-      (fetch_and_execute m memory) (step_result m memory (Refused (refusal 1)))
+      (fetch_and_execute m memory) (step_result m memory (Refused (refusal check.MemorySize)))
       (cond_keeps Kept (eqb (pc m % 2) 0) (execute_decoded (fetched m memory) m memory) (stopped 18 m memory)
       (decoded_sized (fetched m memory) refl) unchanged)
       unchanged

@@ -1,5 +1,6 @@
 -- An instruction that completes changes only what it says it wrote, and what it does hangs on nothing of memory but
 -- what it says it read. A step adds the halfword that it fetches.
+use Rattle.std.specs.Prelude.{Option, Some, None}
 use mathlib.Core.Bool.{Bool, true, false, cond, false≢true}
 use mathlib.Core.List.{List}
 use mathlib.Core.Logic.{◌⊎◌, inl, inr, ⊎_elim}
@@ -13,10 +14,9 @@ use lib.ListN.{length, length-set}
 use lib.Seq.{get_or-set_other}
 use Rattle.units.specs.Address.{memory_bytes}
 use Rattle.units.specs.Bytes.{byte_at, halfword_at, with_byte, with_halfword}
+use Rattle.refusals.specs.declared.check.Check.TheVariants as check
 use Rattle.refusals.specs.Refusal.{refusal}
 use Rattle.isa.specs.Decode.{decode_of}
-use Rattle.isa.specs.declared.decoder.Decoded.{Decoded}
-use Rattle.isa.specs.declared.decoder.Decoded.TheVariants.{Defined, Undefined}
 use Rattle.isa.specs.declared.instruction.Instruction.{Instruction}
 use Rattle.isa.specs.declared.instruction.Instruction.TheVariants.{MovImm, CmpImm, And, Eor, Asr, Tst, Neg, Cmp}
 use Rattle.isa.specs.declared.instruction.Instruction.TheVariants.{AddHigh, CmpHigh, MovHigh, Str, Ldr, Strb, Ldrb}
@@ -55,7 +55,7 @@ pub record Leaves (memory : List ℕ) (t : Traffic) (after : List ℕ) : Type 0 
 
 module _ (m : Machine) (memory : List ℕ) where
   -- what a halfword that came to this tells, and leaves
-  abbrev pub Tells : Decoded → StepResult → Type 0
+  abbrev pub Tells : Option Instruction → StepResult → Type 0
   Tells d r = Leaves memory (when_completed r.outcome (decoded_traffic d m)) r.state.memory
 
   same : {t : Traffic} → Keeps memory t memory
@@ -64,7 +64,7 @@ module _ (m : Machine) (memory : List ℕ) where
   quiet : Leaves memory NoData memory
   quiet = record { in_memory = λ a d. absurd (omega (arith, d.below)); keeps = same }
 
-  str_tells : (offset rb rd : ℕ) → Tells (Defined (Str offset rb rd)) (str_of offset rb rd m memory)
+  str_tells : (offset rb rd : ℕ) → Tells (Some (Str offset rb rd)) (str_of offset rb rd m memory)
   unfolding str_of
   str_tells offset rb rd = go (aligned (effective_address m rb (4 * offset))) refl
     where
@@ -74,10 +74,10 @@ module _ (m : Machine) (memory : List ℕ) where
       x : ℕ
       x = reg m rd
 
-      hit : (b : ℕ) → a ≤ b → b < a + 2 → Writes (decoded_traffic (Defined (Str offset rb rd)) m) b
+      hit : (b : ℕ) → a ≤ b → b < a + 2 → Writes (decoded_traffic (Some (Str offset rb rd)) m) b
       hit b from below = record { writes = refl; touches = record { from = from; below = below } }
 
-      go : (t : Bool) → aligned a ≡ t → Tells (Defined (Str offset rb rd)) (stored m a x t memory)
+      go : (t : Bool) → aligned a ≡ t → Tells (Some (Str offset rb rd)) (stored m a x t memory)
       go true e =
           let four : a % 4 ≡ 0 = eqb-true _ _ e in
           record {
@@ -92,20 +92,20 @@ module _ (m : Machine) (memory : List ℕ) where
           }
       go false e = quiet
 
-  ldr_tells : (offset rb rd : ℕ) → Tells (Defined (Ldr offset rb rd)) (ldr_of offset rb rd m memory)
+  ldr_tells : (offset rb rd : ℕ) → Tells (Some (Ldr offset rb rd)) (ldr_of offset rb rd m memory)
   unfolding ldr_of
   ldr_tells offset rb rd = go (aligned (effective_address m rb (4 * offset))) refl
     where
       a : ℕ
       a = effective_address m rb (4 * offset)
 
-      go : (t : Bool) → aligned a ≡ t → Tells (Defined (Ldr offset rb rd)) (loaded m rd a t memory)
+      go : (t : Bool) → aligned a ≡ t → Tells (Some (Ldr offset rb rd)) (loaded m rd a t memory)
       go true e =
           let four : a % 4 ≡ 0 = eqb-true _ _ e in
           record { in_memory = λ b d. omega (arith, four, d.below); keeps = same }
       go false e = quiet
 
-  pub execute_tells : (i : Instruction) → Tells (Defined i) (execute_of i m memory)
+  pub execute_tells : (i : Instruction) → Tells (Some i) (execute_of i m memory)
   unfolding execute_of strb_of
   execute_tells (MovImm rd imm) = quiet
   execute_tells (CmpImm rd imm) = quiet
@@ -136,16 +136,16 @@ module _ (m : Machine) (memory : List ℕ) where
   execute_tells (Branch condition offset) = quiet
   execute_tells (Halt note) = quiet
 
-  decoded_tells : (d : Decoded) → Tells d (execute_decoded d m memory)
-  decoded_tells (Defined i) = execute_tells i
-  decoded_tells Undefined = quiet
+  decoded_tells : (d : Option Instruction) → Tells d (execute_decoded d m memory)
+  decoded_tells (Some i) = execute_tells i
+  decoded_tells None = quiet
 
   step_tells : Leaves memory (step_traffic m memory) (step_of m memory).state.memory
   unfolding step_traffic step_of fetch_and_execute
   step_tells =
       let d = fetched m memory in
       cond_keeps (Tells d) (eqb (length memory) memory_bytes)
-      (fetch_and_execute m memory) (step_result m memory (Refused (refusal 1)))
+      (fetch_and_execute m memory) (step_result m memory (Refused (refusal check.MemorySize)))
       (cond_keeps (Tells d) (eqb (pc m % 2) 0) (execute_decoded d m memory) (stopped 18 m memory)
       (decoded_tells d) quiet)
       quiet
@@ -167,10 +167,10 @@ one_or_next a b from below = go (ℕ_discrete b a)
 
 module _ (m : Machine) (memory other : List ℕ) (long : length memory ≡ length other) where
   -- what a halfword that came to this in both has done
-  abbrev AlikeAs : Decoded → StepResult → StepResult → Type 0
+  abbrev AlikeAs : Option Instruction → StepResult → StepResult → Type 0
   AlikeAs d r q = Alike memory other (when_completed r.outcome (decoded_traffic d m)) r q
 
-  abbrev pub SameRead : Decoded → StepResult → Type 0
+  abbrev pub SameRead : Option Instruction → StepResult → Type 0
   SameRead d r = (a : ℕ) → Reads (when_completed r.outcome (decoded_traffic d m)) a → byte_at memory a ≡ byte_at other a
 
   -- the same is done to the machine, and nothing to memory
@@ -199,7 +199,7 @@ module _ (m : Machine) (memory other : List ℕ) (long : length memory ≡ lengt
       }
 
   str_alike : (offset rb rd : ℕ)
-      → AlikeAs (Defined (Str offset rb rd)) (str_of offset rb rd m memory) (str_of offset rb rd m other)
+      → AlikeAs (Some (Str offset rb rd)) (str_of offset rb rd m memory) (str_of offset rb rd m other)
   unfolding str_of
   str_alike offset rb rd = go (aligned (effective_address m rb (4 * offset)))
     where
@@ -217,7 +217,7 @@ module _ (m : Machine) (memory other : List ℕ) (long : length memory ≡ lengt
           → byte_at (with_halfword memory a x) b ≡ byte_at (with_halfword other a x) b
       both b h = set_alike (with_byte memory a x) (with_byte other a x) (a + 1) (x / 256) b low h
 
-      go : (t : Bool) → AlikeAs (Defined (Str offset rb rd)) (stored m a x t memory) (stored m a x t other)
+      go : (t : Bool) → AlikeAs (Some (Str offset rb rd)) (stored m a x t memory) (stored m a x t other)
       go true =
           record {
             machine = refl;
@@ -230,27 +230,27 @@ module _ (m : Machine) (memory other : List ℕ) (long : length memory ≡ lengt
           }
       go false = alone refl _ _
 
-  ldr_alike : (offset rb rd : ℕ) → SameRead (Defined (Ldr offset rb rd)) (ldr_of offset rb rd m memory)
-      → AlikeAs (Defined (Ldr offset rb rd)) (ldr_of offset rb rd m memory) (ldr_of offset rb rd m other)
+  ldr_alike : (offset rb rd : ℕ) → SameRead (Some (Ldr offset rb rd)) (ldr_of offset rb rd m memory)
+      → AlikeAs (Some (Ldr offset rb rd)) (ldr_of offset rb rd m memory) (ldr_of offset rb rd m other)
   unfolding ldr_of
   ldr_alike offset rb rd agree = go (aligned (effective_address m rb (4 * offset))) agree
     where
       a : ℕ
       a = effective_address m rb (4 * offset)
 
-      hit : (b : ℕ) → a ≤ b → b < a + 2 → Reads (decoded_traffic (Defined (Ldr offset rb rd)) m) b
+      hit : (b : ℕ) → a ≤ b → b < a + 2 → Reads (decoded_traffic (Some (Ldr offset rb rd)) m) b
       hit b from below = record { reads = refl; touches = record { from = from; below = below } }
 
-      go : (t : Bool) → SameRead (Defined (Ldr offset rb rd)) (loaded m rd a t memory)
-          → AlikeAs (Defined (Ldr offset rb rd)) (loaded m rd a t memory) (loaded m rd a t other)
+      go : (t : Bool) → SameRead (Some (Ldr offset rb rd)) (loaded m rd a t memory)
+          → AlikeAs (Some (Ldr offset rb rd)) (loaded m rd a t memory) (loaded m rd a t other)
       go true agree =
           loads refl rd (halfword_at memory a) (halfword_at other a)
           (ap₂ (λ (x y : ℕ). x + y * 256)
           (agree a (hit a (omega arith) (omega arith))) (agree (a + 1) (hit (a + 1) (omega arith) (omega arith))))
       go false agree = alone refl _ _
 
-  pub execute_alike : (i : Instruction) → SameRead (Defined i) (execute_of i m memory)
-      → AlikeAs (Defined i) (execute_of i m memory) (execute_of i m other)
+  pub execute_alike : (i : Instruction) → SameRead (Some i) (execute_of i m memory)
+      → AlikeAs (Some i) (execute_of i m memory) (execute_of i m other)
   unfolding execute_of strb_of ldrb_of
   execute_alike (MovImm rd imm) agree = alone refl _ _
   execute_alike (CmpImm rd imm) agree = alone refl _ _
@@ -283,10 +283,10 @@ module _ (m : Machine) (memory other : List ℕ) (long : length memory ≡ lengt
   execute_alike (Branch condition offset) agree = alone refl _ _
   execute_alike (Halt note) agree = alone refl _ _
 
-  decoded_alike : (d : Decoded) → SameRead d (execute_decoded d m memory)
+  decoded_alike : (d : Option Instruction) → SameRead d (execute_decoded d m memory)
       → AlikeAs d (execute_decoded d m memory) (execute_decoded d m other)
-  decoded_alike (Defined i) agree = execute_alike i agree
-  decoded_alike Undefined agree = alone refl _ _
+  decoded_alike (Some i) agree = execute_alike i agree
+  decoded_alike None agree = alone refl _ _
 
 module _ (m : Machine) (memory other : List ℕ) (agrees : Agrees m memory other) where
   -- both fetch the same
@@ -298,7 +298,7 @@ module _ (m : Machine) (memory other : List ℕ) (agrees : Agrees m memory other
       (agrees.fetch (pc m + 1) (record { even = even; from = omega arith; below = omega arith })))
 
   -- what is done is alike, and the same is told of it
-  abbrev Both : Decoded → StepResult → StepResult → Type 0
+  abbrev Both : Option Instruction → StepResult → StepResult → Type 0
   Both d r q =
       Alike memory other (when_completed r.outcome (decoded_traffic (fetched m memory) m)) r q
       × (when_completed r.outcome (decoded_traffic (fetched m memory) m)
@@ -316,14 +316,14 @@ module _ (m : Machine) (memory other : List ℕ) (agrees : Agrees m memory other
   fetched_alike true e agree =
       let here = fetched m memory in
       let alike = decoded_alike m memory other agrees.size here agree in
-      subst (λ (d : Decoded). Both d (execute_decoded here m memory) (execute_decoded d m other))
+      subst (λ (d : Option Instruction). Both d (execute_decoded here m memory) (execute_decoded d m other))
       (same_fetch (eqb-true _ _ e))
       (alike, ap (λ (o : Outcome). when_completed o (decoded_traffic here m)) alike.outcome)
   fetched_alike false e agree = (alone m memory other agrees.size refl _ _, refl)
 
   -- in a memory of the right size or of another
   abbrev by_size : Bool → List ℕ → StepResult
-  by_size t bytes = cond t (fetch_and_execute m bytes) (step_result m bytes (Refused (refusal 1)))
+  by_size t bytes = cond t (fetch_and_execute m bytes) (step_result m bytes (Refused (refusal check.MemorySize)))
 
   sized_alike : (t : Bool) → Agreed (by_size t memory) → Both (fetched m other) (by_size t memory) (by_size t other)
   unfolding fetch_and_execute

@@ -1,8 +1,7 @@
 -- What is claimed of traffic (Change 2), in the request's words.
-use Rattle.std.specs.Prelude.{List, ◌⊎◌, ◌≡◌, ℕ, suc, ◌+◌, ◌<◌}
+use Rattle.std.specs.Prelude.{List, ◌⊎◌, ◌≡◌, ℕ, suc, ◌+◌, ◌<◌, Some}
 use Rattle.units.specs.Address.{wrap}
 use Rattle.isa.specs.Access.{Access, access_of}
-use Rattle.isa.specs.declared.decoder.Decoded.TheVariants.{Defined}
 use Rattle.isa.specs.declared.instruction.Instruction.{Instruction}
 use Rattle.traffic.specs.declared.data.Traffic.{Traffic}
 use Rattle.traffic.specs.declared.data.Traffic.TheVariants.{NoData}
@@ -25,7 +24,7 @@ pub record Tells (m : Machine) (access : Access) (t : Traffic) : Type 0 where
 -- a completed step tells the data of the instruction that it fetched
 abbrev pub CompletedTells : Type 0
 CompletedTells =
-    (m : Machine) (memory : List ℕ) (i : Instruction) → fetched m memory ≡ Defined i
+    (m : Machine) (memory : List ℕ) (i : Instruction) → fetched m memory ≡ Some i
     → (step_of m memory).outcome ≡ Completed
     → Tells m (access_of i) (step_traffic m memory)
 

@@ -13,8 +13,7 @@ use Rattle.units.proofs.Cases.{clash}
 use Rattle.refusals.specs.declared.refusal.Refusal.{Refusal}
 use Rattle.image.specs.Block.{code_halfword}
 use Rattle.image.specs.Check.{Asked, first_no, rows_below, unused_zero}
-use Rattle.image.specs.declared.answer.Answer.{Answer}
-use Rattle.image.specs.declared.answer.Answer.TheVariants.{Pass, Refused}
+use Rattle.std.specs.Prelude.{Result, Ok, Err, ⊤}
 
 -- what a test says of its check, where the code asks for its opposite: `search (.., told)` finds it
 pub told_yes : (t u : Bool) → t ≡ u → not t ≡ false → u ≡ true
@@ -26,9 +25,9 @@ told_no t u e h = sym e ∙ not-true t h
 pub ruleset told = (told_yes, told_no)
 
 -- the first answer, or the second if that passed
-abbrev pub or_else : Answer → Answer → Answer
-or_else Pass b = b
-or_else (Refused r) b = Refused r
+abbrev pub or_else : Result ⊤ Refusal → Result ⊤ Refusal → Result ⊤ Refusal
+or_else (Ok tt) b = b
+or_else (Err r) b = Err r
 
 pub first_append : (a b : List Asked) → first_no (a ++ b) ≡ or_else (first_no a) (first_no b)
 unfolding first_no
@@ -36,80 +35,80 @@ first_append [] b = refl
 first_append (q ∷ qs) b = go q.passed (first_append qs b)
   where
     go : (t : Bool) → first_no (qs ++ b) ≡ or_else (first_no qs) (first_no b)
-        → cond t (first_no (qs ++ b)) (Refused q.otherwise)
-        ≡ or_else (cond t (first_no qs) (Refused q.otherwise)) (first_no b)
+        → cond t (first_no (qs ++ b)) (Err q.otherwise)
+        ≡ or_else (cond t (first_no qs) (Err q.otherwise)) (first_no b)
     go true e = e
     go false e = refl
 
 pub passed_head : (q : Asked) (qs : List Asked) → q.passed ≡ true → first_no (q ∷ qs) ≡ first_no qs
 unfolding first_no
-passed_head q qs e = ap (λ (t : Bool). cond t (first_no qs) (Refused q.otherwise)) e
+passed_head q qs e = ap (λ (t : Bool). cond t (first_no qs) (Err q.otherwise)) e
 
 -- where a row passes, so does its head, and so does its tail
-pub head_passed : (q : Asked) (qs : List Asked) → first_no (q ∷ qs) ≡ Pass → q.passed ≡ true
+pub head_passed : (q : Asked) (qs : List Asked) → first_no (q ∷ qs) ≡ (Ok tt) → q.passed ≡ true
 unfolding first_no
 head_passed q qs e = go q.passed e
   where
-    go : (t : Bool) → cond t (first_no qs) (Refused q.otherwise) ≡ Pass → t ≡ true
+    go : (t : Bool) → cond t (first_no qs) (Err q.otherwise) ≡ (Ok tt) → t ≡ true
     go true e = refl
     go false e = clash (cc)
 
-pub tail_passed : (q : Asked) (qs : List Asked) → first_no (q ∷ qs) ≡ Pass → first_no qs ≡ Pass
+pub tail_passed : (q : Asked) (qs : List Asked) → first_no (q ∷ qs) ≡ (Ok tt) → first_no qs ≡ (Ok tt)
 unfolding first_no
 tail_passed q qs e = go q.passed e
   where
-    go : (t : Bool) → cond t (first_no qs) (Refused q.otherwise) ≡ Pass → first_no qs ≡ Pass
+    go : (t : Bool) → cond t (first_no qs) (Err q.otherwise) ≡ (Ok tt) → first_no qs ≡ (Ok tt)
     go true e = e
     go false e = clash (cc)
 
-or_left : (a b : Answer) → or_else a b ≡ Pass → a ≡ Pass
-or_left Pass b e = refl
-or_left (Refused r) b e = e
+or_left : (a b : Result ⊤ Refusal) → or_else a b ≡ (Ok tt) → a ≡ (Ok tt)
+or_left (Ok tt) b e = refl
+or_left (Err r) b e = e
 
-or_right : (a b : Answer) → or_else a b ≡ Pass → b ≡ Pass
-or_right Pass b e = e
-or_right (Refused r) b e = clash (cc)
+or_right : (a b : Result ⊤ Refusal) → or_else a b ≡ (Ok tt) → b ≡ (Ok tt)
+or_right (Ok tt) b e = e
+or_right (Err r) b e = clash (cc)
 
-pub left_passed : (a b : List Asked) → first_no (a ++ b) ≡ Pass → first_no a ≡ Pass
+pub left_passed : (a b : List Asked) → first_no (a ++ b) ≡ (Ok tt) → first_no a ≡ (Ok tt)
 left_passed a b e = or_left (first_no a) (first_no b) (sym (first_append a b) ∙ e)
 
-pub right_passed : (a b : List Asked) → first_no (a ++ b) ≡ Pass → first_no b ≡ Pass
+pub right_passed : (a b : List Asked) → first_no (a ++ b) ≡ (Ok tt) → first_no b ≡ (Ok tt)
 right_passed a b e = or_right (first_no a) (first_no b) (sym (first_append a b) ∙ e)
 
 -- rows of checks
 module _ (row : ℕ → List Asked) where
   -- the rows before row n have passed: it decides
-  pub next : (n : ℕ) → first_no (rows_below row n) ≡ Pass → first_no (rows_below row (suc n)) ≡ first_no (row n)
+  pub next : (n : ℕ) → first_no (rows_below row n) ≡ (Ok tt) → first_no (rows_below row (suc n)) ≡ first_no (row n)
   unfolding rows_below
-  next n e = first_append (rows_below row n) (row n) ∙ ap (λ (a : Answer). or_else a (first_no (row n))) e
+  next n e = first_append (rows_below row n) (row n) ∙ ap (λ (a : Result ⊤ Refusal). or_else a (first_no (row n))) e
 
   -- a refusal stands
-  pub stands : (k n : ℕ) (r : Refusal) → k ≤ n → first_no (rows_below row k) ≡ Refused r
-      → first_no (rows_below row n) ≡ Refused r
+  pub stands : (k n : ℕ) (r : Refusal) → k ≤ n → first_no (rows_below row k) ≡ Err r
+      → first_no (rows_below row n) ≡ Err r
   unfolding rows_below
   stands k n r h e =
-      le_ind (λ (m : ℕ). first_no (rows_below row m) ≡ Refused r) e
-      (λ m _ ih. first_append (rows_below row m) (row m) ∙ ap (λ (a : Answer). or_else a (first_no (row m))) ih)
+      le_ind (λ (m : ℕ). first_no (rows_below row m) ≡ Err r) e
+      (λ m _ ih. first_append (rows_below row m) (row m) ∙ ap (λ (a : Result ⊤ Refusal). or_else a (first_no (row m))) ih)
       n h
 
   -- the rows before row k have passed, and a is what row k comes to
-  module _ (k : ℕ) (before : first_no (rows_below row k) ≡ Pass) (a : Answer) (is : a ≡ first_no (row k)) where
-    pub refused_at : (n : ℕ) (r : Refusal) → a ≡ Refused r → k < n → Refused r ≡ first_no (rows_below row n)
+  module _ (k : ℕ) (before : first_no (rows_below row k) ≡ (Ok tt)) (a : Result ⊤ Refusal) (is : a ≡ first_no (row k)) where
+    pub refused_at : (n : ℕ) (r : Refusal) → a ≡ Err r → k < n → Err r ≡ first_no (rows_below row n)
     refused_at n r e h = sym (stands (suc k) n r h (next k before ∙ sym is ∙ e))
 
-    pub passed_too : a ≡ Pass → first_no (rows_below row (k + 1)) ≡ Pass
+    pub passed_too : a ≡ (Ok tt) → first_no (rows_below row (k + 1)) ≡ (Ok tt)
     passed_too e = rw add-one (next k before ∙ sym is ∙ e)
 
   -- the rows pass exactly when each does
-  pub each_passed : (k n : ℕ) → k < n → first_no (rows_below row n) ≡ Pass → first_no (row k) ≡ Pass
+  pub each_passed : (k n : ℕ) → k < n → first_no (rows_below row n) ≡ (Ok tt) → first_no (row k) ≡ (Ok tt)
   unfolding rows_below
   each_passed k n h =
-      le_ind (λ (m : ℕ). first_no (rows_below row m) ≡ Pass → first_no (row k) ≡ Pass)
+      le_ind (λ (m : ℕ). first_no (rows_below row m) ≡ (Ok tt) → first_no (row k) ≡ (Ok tt))
       (right_passed (rows_below row k) (row k))
       (λ m _ ih e. ih (left_passed (rows_below row m) (row m) e))
       n h
 
-  pub all_passed : (n : ℕ) → ((k : ℕ) → k < n → first_no (row k) ≡ Pass) → first_no (rows_below row n) ≡ Pass
+  pub all_passed : (n : ℕ) → ((k : ℕ) → k < n → first_no (row k) ≡ (Ok tt)) → first_no (rows_below row n) ≡ (Ok tt)
   unfolding rows_below first_no
   all_passed zero each = refl
   all_passed (suc n) each = next n (all_passed n (λ k h. each k (omega arith))) ∙ each n (omega arith)

@@ -14,13 +14,13 @@ use Rattle.image.specs.Block.{blocks_in, block_of, used_of}
 use Rattle.image.specs.Code.{code_position, code_at, code_length, code_of}
 use Rattle.image.specs.Check.{whole, first_no, check8, block_checks, checks_below, checks_of, layout_of, layout_fits}
 use Rattle.image.specs.Check.{checked_as, check_of}
-use Rattle.image.specs.declared.answer.Answer.{Answer}
-use Rattle.image.specs.declared.answer.Answer.TheVariants.{Pass, Refused}
 use Rattle.image.specs.declared.checker.Layout.{Layout}
-use Rattle.image.specs.declared.checker.Checked.TheVariants as checked
 use Rattle.image.proofs.Lists.{length_tabulate, tabulate_at}
 use Rattle.image.proofs.Answers.{head_passed, tail_passed, left_passed, right_passed, each_passed}
 use Rattle.image.proofs.Verdicts.{size_right, used_right_is, used_most, used_least}
+use Rattle.std.specs.Prelude.{Result, Ok, Err, ⊤}
+use Rattle.refusals.specs.declared.check.Check.TheVariants as check
+use Rattle.refusals.specs.declared.refusal.Refusal.{Refusal}
 
 -- the code as a list: its length, and its halfwords
 pub code_length_is : (file : List ℕ) → length (code_of file) ≡ code_length file
@@ -49,18 +49,18 @@ pub window_right : (c w l : ℕ) → check8 c w l ≡ true → Window c w l
 unfolding check8
 window_right c w l e = let each = simp and-eq-true_iff at e in search (eqb-true, leb-true)
 
-valid_answer : (said layout : Layout) (a : Answer) → checked_as said a ≡ checked.Valid layout
-    → (a ≡ Pass) × (layout ≡ said)
-valid_answer said layout Pass e = (refl, cc)
-valid_answer said layout (Refused r) e = clash (cc)
+valid_answer : (said layout : Layout) (a : Result ⊤ Refusal) → checked_as said a ≡ Ok layout
+    → (a ≡ (Ok tt)) × (layout ≡ said)
+valid_answer said layout (Ok tt) e = (refl, cc)
+valid_answer said layout (Err r) e = clash (cc)
 
 -- code halfword i lies in the b blocks, of which the last uses so many
 position_in : (i b used : ℕ) → 1 ≤ b → used ≤ block_code → i < block_code * (b - 1) + used
     → code_position i + 2 ≤ block_bytes * b
 position_in i b used hb hu hi = omega arith
 
-module _ (file : List ℕ) (layout : Layout) (valid : check_of file ≡ checked.Valid layout) where
-  passed : (first_no (checks_of file) ≡ Pass) × (layout ≡ layout_of file)
+module _ (file : List ℕ) (layout : Layout) (valid : check_of file ≡ Ok layout) where
+  passed : (first_no (checks_of file) ≡ (Ok tt)) × (layout ≡ layout_of file)
   unfolding check_of
   passed = valid_answer (layout_of file) layout (first_no (checks_of file)) valid
 
@@ -71,13 +71,13 @@ module _ (file : List ℕ) (layout : Layout) (valid : check_of file ≡ checked.
   valid_size = size_right file (head_passed _ _ passed.0)
 
   -- the checks behind check 2: those of the blocks, and check 8
-  blocks_passed : first_no (checks_below file (blocks_in file)) ≡ Pass
-  blocks_passed = left_passed _ (whole 8 (layout_fits (layout_of file)) ∷ []) (tail_passed _ _ passed.0)
+  blocks_passed : first_no (checks_below file (blocks_in file)) ≡ (Ok tt)
+  blocks_passed = left_passed _ (whole check.Window (layout_fits (layout_of file)) ∷ []) (tail_passed _ _ passed.0)
 
-  last_passed : first_no (whole 8 (layout_fits (layout_of file)) ∷ []) ≡ Pass
+  last_passed : first_no (whole check.Window (layout_fits (layout_of file)) ∷ []) ≡ (Ok tt)
   last_passed = right_passed (checks_below file (blocks_in file)) _ (tail_passed _ _ passed.0)
 
-  pub valid_block : (k : ℕ) → k < blocks_in file → first_no (block_checks file k) ≡ Pass
+  pub valid_block : (k : ℕ) → k < blocks_in file → first_no (block_checks file k) ≡ (Ok tt)
   valid_block k h = each_passed (block_checks file) k (blocks_in file) h blocks_passed
 
   pub valid_fits : layout_fits layout ≡ true

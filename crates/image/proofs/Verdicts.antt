@@ -6,6 +6,7 @@ use Prim.Native.Nat.{ℕ, ◌+◌, ◌-◌, ◌*◌, ◌%◌, ◌≤◌, ◌<◌
 use native.Mathlib.Omega.{arith}
 use borrow.Author.Tests.{leb-true, eqb-true, eqb-false, eq-eqb, ne_eqb}
 use lib.Dec.{eqb, leb}
+use Rattle.refusals.specs.declared.check.Check.TheVariants as check
 use Rattle.refusals.specs.Refusal.{refusal, refusal_in_block}
 use Rattle.refusals.specs.declared.refusal.Refusal.{Refusal}
 use lib.ListN.{length}
@@ -15,12 +16,9 @@ use Rattle.image.specs.Window.{WindowIs}
 use Rattle.image.specs.Code.{code_length}
 use Rattle.image.specs.Check.{Asked, whole, first_no, check2, check3, check4, check5, check6, check7, used_right}
 use Rattle.image.specs.Check.{unused_zero, block_checks, checks_below, layout_of, layout_fits, checked_as, check_of}
-use Rattle.image.specs.declared.answer.Answer.{Answer}
-use Rattle.image.specs.declared.answer.Answer.TheVariants.{Pass, Refused}
 use Rattle.image.specs.declared.checker.Layout.{Layout}
-use Rattle.image.specs.declared.checker.Checked.{Checked}
-use Rattle.image.specs.declared.checker.Checked.TheVariants as checked
 use Rattle.image.proofs.Answers.{or_else, first_append, passed_head, head_passed, tail_passed, each_passed}
+use Rattle.std.specs.Prelude.{Result, Ok, Err, ⊤}
 
 -- a used count that is right for its block is at least 1 and fits the block
 pub used_most : (is_last : Bool) (used : ℕ) → used_right is_last used ≡ true → used ≤ block_code
@@ -32,7 +30,7 @@ used_least true used e = leb-true 1 used ((and-eq-true_iff (leb 1 used) (leb use
 used_least false used e = let q = eqb-true used 249 e in omega arith
 
 -- a block that has passed uses as much as it should
-module _ (file : List ℕ) (k : ℕ) (e : first_no (block_checks file k) ≡ Pass) where
+module _ (file : List ℕ) (k : ℕ) (e : first_no (block_checks file k) ≡ (Ok tt)) where
   pub passed6 : check6 (eqb (k + 1) (blocks_in file)) (block_of file k) ≡ true
   passed6 = head_passed _ _ (tail_passed _ _ (tail_passed _ _ (tail_passed _ _ e)))
 
@@ -78,42 +76,42 @@ same_window block first x y p q = same_pair _ _ _ _ x y p.1 q.1 p.0 q.0
 
 -- block k of a file of so many blocks: the first check that it fails gives the refusal
 module _ (file block : List ℕ) (k blocks : ℕ) (b : block ≡ block_of file k) (n : blocks ≡ blocks_in file) where
-  pub fails3 : (r : Refusal) → r ≡ refusal_in_block 3 k → check3 block ≡ false
-      → Refused r ≡ first_no (block_checks file k)
+  pub fails3 : (r : Refusal) → r ≡ refusal_in_block check.Mark k → check3 block ≡ false
+      → Err r ≡ first_no (block_checks file k)
   unfolding first_no
   fails3 r is e3 = simp (is, ← b, e3)
 
   module _ (e3 : check3 block ≡ true) where
-    pub fails4 : (r : Refusal) → r ≡ refusal_in_block 4 k → check4 block ≡ false
-        → Refused r ≡ first_no (block_checks file k)
+    pub fails4 : (r : Refusal) → r ≡ refusal_in_block check.Sum k → check4 block ≡ false
+        → Err r ≡ first_no (block_checks file k)
     unfolding first_no
     fails4 r is e4 = simp (is, ← b, e3, e4)
 
     module _ (e4 : check4 block ≡ true) where
-      pub fails5 : (r : Refusal) → r ≡ refusal_in_block 5 k → check5 k blocks block ≡ false
-          → Refused r ≡ first_no (block_checks file k)
+      pub fails5 : (r : Refusal) → r ≡ refusal_in_block check.Numbering k → check5 k blocks block ≡ false
+          → Err r ≡ first_no (block_checks file k)
       unfolding first_no
       fails5 r is e5 = simp (is, ← b, ← n, e3, e4, e5)
 
       module _ (e5 : check5 k blocks block ≡ true) where
-        pub fails6 : (r : Refusal) → r ≡ refusal_in_block 6 k → check6 (eqb (k + 1) blocks) block ≡ false
-            → Refused r ≡ first_no (block_checks file k)
+        pub fails6 : (r : Refusal) → r ≡ refusal_in_block check.Filling k → check6 (eqb (k + 1) blocks) block ≡ false
+            → Err r ≡ first_no (block_checks file k)
         unfolding first_no
         fails6 r is e6 = simp (is, ← b, ← n, e3, e4, e5, e6)
 
         module _ (e6 : check6 (eqb (k + 1) blocks) block ≡ true) where
-          pub fails7 : (r : Refusal) → r ≡ refusal_in_block 7 k → check7 (block_of file 0) block ≡ false
-              → Refused r ≡ first_no (block_checks file k)
+          pub fails7 : (r : Refusal) → r ≡ refusal_in_block check.SameWindow k → check7 (block_of file 0) block ≡ false
+              → Err r ≡ first_no (block_checks file k)
           unfolding first_no
           fails7 r is e7 = simp (is, ← b, ← n, e3, e4, e5, e6, e7)
 
-          pub passes : check7 (block_of file 0) block ≡ true → Pass ≡ first_no (block_checks file k)
+          pub passes : check7 (block_of file 0) block ≡ true → (Ok tt) ≡ first_no (block_checks file k)
           unfolding first_no
           passes e7 = simp (← b, ← n, e3, e4, e5, e6, e7)
 
 -- the last block of a file whose blocks have passed, and the layout of that file
 module _ (file : List ℕ) (blocks : ℕ) (last : List ℕ) (used : ℕ) where
-  pub last_used_most : blocks ≡ blocks_in file → 1 ≤ blocks → first_no (checks_below file blocks) ≡ Pass
+  pub last_used_most : blocks ≡ blocks_in file → 1 ≤ blocks → first_no (checks_below file blocks) ≡ (Ok tt)
       → last ≡ block_of file (blocks - 1) → used ≡ used_of last → used ≤ block_code
   last_used_most n h e b u =
       let row = each_passed (block_checks file) (blocks - 1) blocks (omega arith) e in
@@ -134,30 +132,30 @@ size_right file e = let each = simp and-eq-true_iff at e in search (eqb-true, le
 
 -- what all checks of a file come to
 module _ (file : List ℕ) where
-  pub refused2 : (r : Refusal) → r ≡ refusal 2 → check2 file ≡ false → checked.Refused r ≡ check_of file
+  pub refused2 : (r : Refusal) → r ≡ refusal check.FileLength → check2 file ≡ false → Err r ≡ check_of file
   unfolding check_of first_no
   refused2 r is e = simp (is, e)
 
   -- check 8, the last one
   abbrev last : List Asked
-  last = whole 8 (layout_fits (layout_of file)) ∷ []
+  last = whole check.Window (layout_fits (layout_of file)) ∷ []
 
   module _ (e2 : check2 file ≡ true) where
-    rest : (a : Answer) → first_no (checks_below file (blocks_in file)) ≡ a
+    rest : (a : Result ⊤ Refusal) → first_no (checks_below file (blocks_in file)) ≡ a
         → check_of file ≡ checked_as (layout_of file) (or_else a (first_no last))
     unfolding check_of
     rest a e =
         ap (checked_as (layout_of file))
-        (passed_head (whole 2 (check2 file)) (checks_below file (blocks_in file) ++ last) e2
+        (passed_head (whole check.FileLength (check2 file)) (checks_below file (blocks_in file) ++ last) e2
         ∙ first_append (checks_below file (blocks_in file)) last
-        ∙ ap (λ (b : Answer). or_else b (first_no last)) e)
+        ∙ ap (λ (b : Result ⊤ Refusal). or_else b (first_no last)) e)
 
-    pub refused_block : (a : Answer) (r : Refusal) → a ≡ first_no (checks_below file (blocks_in file)) → a ≡ Refused r
-        → checked.Refused r ≡ check_of file
-    refused_block a r is e = sym (rest (Refused r) (sym is ∙ e))
+    pub refused_block : (a : Result ⊤ Refusal) (r : Refusal) → a ≡ first_no (checks_below file (blocks_in file)) → a ≡ Err r
+        → Err r ≡ check_of file
+    refused_block a r is e = sym (rest (Err r) (sym is ∙ e))
 
-    pub rest8 : (a : Answer) (layout : Layout) (r : Checked) → a ≡ first_no (checks_below file (blocks_in file))
-        → a ≡ Pass → layout ≡ layout_of file → r ≡ checked_as layout (first_no (whole 8 (layout_fits layout) ∷ []))
+    pub rest8 : (a : Result ⊤ Refusal) (layout : Layout) (r : Result Layout Refusal) → a ≡ first_no (checks_below file (blocks_in file))
+        → a ≡ (Ok tt) → layout ≡ layout_of file → r ≡ checked_as layout (first_no (whole check.Window (layout_fits layout) ∷ []))
         → r ≡ check_of file
     rest8 a layout r is e q p =
-        p ∙ ap (λ (y : Layout). checked_as y (first_no (whole 8 (layout_fits y) ∷ []))) q ∙ sym (rest Pass (sym is ∙ e))
+        p ∙ ap (λ (y : Layout). checked_as y (first_no (whole check.Window (layout_fits y) ∷ []))) q ∙ sym (rest (Ok tt) (sym is ∙ e))

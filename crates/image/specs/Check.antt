@@ -1,18 +1,16 @@
 -- Checks 2 to 8 of a file ("The questions"): each is a test, and the first no is the answer.
 use Rattle.std.specs.Prelude.{Bool, true, ◌&&◌, cond, List, [], ◌∷◌, ◌++◌, ℕ, zero, suc, ◌+◌, ◌-◌, ◌*◌, ◌%◌, eqb, leb}
-use Rattle.std.specs.Prelude.{length}
+use Rattle.std.specs.Prelude.{length, Result, Ok, Err, ⊤}
 use Rattle.units.specs.Address.{memory_bytes}
+use Rattle.refusals.specs.declared.check.Check.{Check}
+use Rattle.refusals.specs.declared.check.Check.TheVariants as check
 use Rattle.refusals.specs.Refusal.{refusal, refusal_in_block}
 use Rattle.refusals.specs.declared.refusal.Refusal.{Refusal}
 use Rattle.image.specs.Format.{mark, block_bytes, block_code, most_bytes}
 use Rattle.image.specs.Block.{blocks_in, block_of, halfword, number_of, used_of, window_start_of, window_length_of}
 use Rattle.image.specs.Block.{count_of, code_halfword, block_sum_of}
 use Rattle.image.specs.Code.{code_length}
-use Rattle.image.specs.declared.answer.Answer.{Answer}
-use Rattle.image.specs.declared.answer.Answer.TheVariants.{Pass, Refused}
 use Rattle.image.specs.declared.checker.Layout.{Layout}
-use Rattle.image.specs.declared.checker.Checked.{Checked}
-use Rattle.image.specs.declared.checker.Checked.TheVariants as checked
 
 -- a check that was put: whether it passed, and the refusal if it didn't
 pub record Asked : Type 0 where
@@ -20,16 +18,16 @@ pub record Asked : Type 0 where
   pub otherwise : Refusal
 
 -- a check of a whole file or code, and one of block k
-abbrev pub whole : ℕ → Bool → Asked
-whole number test = record { passed = test; otherwise = refusal number }
+abbrev pub whole : Check → Bool → Asked
+whole check test = record { passed = test; otherwise = refusal check }
 
-abbrev pub in_block : ℕ → ℕ → Bool → Asked
-in_block number k test = record { passed = test; otherwise = refusal_in_block number k }
+abbrev pub in_block : Check → ℕ → Bool → Asked
+in_block check k test = record { passed = test; otherwise = refusal_in_block check k }
 
 -- checks are put in order, and the first no gives the refusal
-unfoldable pub first_no : List Asked → Answer
-first_no [] = Pass
-first_no (q ∷ qs) = cond q.passed (first_no qs) (Refused q.otherwise)
+unfoldable pub first_no : List Asked → Result ⊤ Refusal
+first_no [] = Ok tt
+first_no (q ∷ qs) = cond q.passed (first_no qs) (Err q.otherwise)
 
 -- rows 0 to n - 1 of checks, one after the other: a row is what is put to one block, or to one instruction
 unfoldable pub rows_below : (ℕ → List Asked) → ℕ → List Asked
@@ -77,11 +75,11 @@ check8 c w l = eqb (w % 4) 0 && eqb (l % 4) 0 && leb 4 l && leb c w && leb (w + 
 -- what is put to block k, and to the blocks before block k
 abbrev pub block_checks : List ℕ → ℕ → List Asked
 block_checks file k =
-    in_block 3 k (check3 (block_of file k))
-    ∷ in_block 4 k (check4 (block_of file k))
-    ∷ in_block 5 k (check5 k (blocks_in file) (block_of file k))
-    ∷ in_block 6 k (check6 (eqb (k + 1) (blocks_in file)) (block_of file k))
-    ∷ in_block 7 k (check7 (block_of file 0) (block_of file k))
+    in_block check.Mark k (check3 (block_of file k))
+    ∷ in_block check.Sum k (check4 (block_of file k))
+    ∷ in_block check.Numbering k (check5 k (blocks_in file) (block_of file k))
+    ∷ in_block check.Filling k (check6 (eqb (k + 1) (blocks_in file)) (block_of file k))
+    ∷ in_block check.SameWindow k (check7 (block_of file 0) (block_of file k))
     ∷ []
 
 abbrev pub checks_below : List ℕ → ℕ → List Asked
@@ -102,13 +100,13 @@ layout_fits layout = check8 layout.code_bytes layout.window_start layout.window_
 -- all that is put to a file, in order
 abbrev pub checks_of : List ℕ → List Asked
 checks_of file =
-    whole 2 (check2 file)
-    ∷ (checks_below file (blocks_in file) ++ (whole 8 (layout_fits (layout_of file)) ∷ []))
+    whole check.FileLength (check2 file)
+    ∷ (checks_below file (blocks_in file) ++ (whole check.Window (layout_fits (layout_of file)) ∷ []))
 
-abbrev pub checked_as : Layout → Answer → Checked
-checked_as layout Pass = checked.Valid layout
-checked_as layout (Refused r) = checked.Refused r
+abbrev pub checked_as : Layout → Result ⊤ Refusal → Result Layout Refusal
+checked_as layout (Ok tt) = Ok layout
+checked_as layout (Err r) = Err r
 
 -- the layout of a file that gets a yes from each, or the first no
-unfoldable pub check_of : List ℕ → Checked
+unfoldable pub check_of : List ℕ → Result Layout Refusal
 check_of file = checked_as (layout_of file) (first_no (checks_of file))

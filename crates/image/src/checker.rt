@@ -1,5 +1,5 @@
 // The check of a file: questions 2 to 8, in order, and the first no.
-ghost use Rattle.std.specs.Prelude.{List, [], ◌∷◌, ◌≡◌, ℕ, ◌-◌, ◌<◌, ◌≤◌, length};
+ghost use Rattle.std.specs.Prelude.{List, [], ◌∷◌, ◌≡◌, ℕ, ◌-◌, ◌<◌, ◌≤◌, length, Ok};
 ghost use Rattle.image.specs.Format.{block_bytes, block_code, most_blocks};
 ghost use Rattle.image.specs.Block.{blocks_in, block_of};
 ghost use Rattle.image.specs.Window.{WindowIs};
@@ -7,11 +7,10 @@ ghost use Rattle.image.specs.Check.{whole, first_no, check2, check3, check4, che
 ghost use Rattle.image.specs.Check.{check6, check7, check8, block_checks, checks_below, layout_of, layout_fits};
 ghost use Rattle.image.specs.Check.{checked_as, check_of};
 
-use super::answer::{Answer, refusal_in_block};
 use super::block::{block_part, block_sum, field};
 use super::format::{BLOCK_BYTES, BLOCK_CODE, HEADER_HALFWORDS, MARK, MOST_BYTES};
-use refusals::{Refusal, refusal_of};
-use units::{InstructionIndex, MEMORY_BYTES, byte_address};
+use refusals::{Check, Refusal};
+use units::{ByteAddress, InstructionIndex, MEMORY_BYTES};
 
 // What an accepted file says of itself, in bytes: the length of its code (the
 // papers' c), and where its window starts (w) and how long it is (l).
@@ -20,13 +19,6 @@ pub struct Layout {
     pub code_bytes: u16,
     pub window_start: u16,
     pub window_length: u16,
-}
-
-// The answer to a file: its layout, or the first check that it fails.
-#[derive(Clone, Copy)]
-pub enum Checked {
-    Valid(Layout),
-    Refused(Refusal),
 }
 
 // Check 2, of a file's length.
@@ -145,59 +137,56 @@ pub fn is_window(c: u16, w: u16, l: u16) -> bool
 }
 
 // Checks 3 to 7 of block `k`, of so many blocks, where the first has this window.
-fn check_block(file: &[u8], k: u8, blocks: u8, window: u32) -> Answer
+fn check_block(file: &[u8], k: u8, blocks: u8, window: u32) -> Result<(), Refusal>
     requires k_lt_blocks { (k < blocks) × (blocks ≡ blocks_in file.now) }
     requires window_is { WindowIs (block_of file.now 0) window }
     ensures { result ≡ first_no (block_checks file.now k) }
 {
     let block = block_part(file, k as usize);
     if !is_marked(block) {
-        return Answer::Refused(refusal_in_block(3, k));
+        return Err(Refusal::in_block(Check::Mark, k));
     }
     if !is_balanced(block) {
-        return Answer::Refused(refusal_in_block(4, k));
+        return Err(Refusal::in_block(Check::Sum, k));
     }
     if !is_numbered(block, k, blocks) {
-        return Answer::Refused(refusal_in_block(5, k));
+        return Err(Refusal::in_block(Check::Numbering, k));
     }
     if !is_filled(block, k + 1 == blocks) {
-        return Answer::Refused(refusal_in_block(6, k));
+        return Err(Refusal::in_block(Check::Filling, k));
     }
     if !has_window(block, window) {
-        return Answer::Refused(refusal_in_block(7, k));
+        return Err(Refusal::in_block(Check::SameWindow, k));
     }
-    Answer::Pass
+    Ok(())
 }
 
 // Checks 3 to 7 of each block, first to last.
-fn check_blocks(file: &[u8], blocks: u8) -> Answer
+fn check_blocks(file: &[u8], blocks: u8) -> Result<(), Refusal>
     requires { (blocks ≡ blocks_in file.now) × (1 ≤ blocks) }
     ensures { result ≡ first_no (checks_below file.now blocks) }
 {
     let window = window_word(block_part(file, 0));
     let mut k = 0;
     while k < blocks {
-        let answer = check_block(file, k, blocks, window);
-        if let Answer::Refused(refusal) = answer {
-            return Answer::Refused(refusal);
-        }
+        check_block(file, k, blocks, window)?;
         k += 1;
     }
-    Answer::Pass
+    Ok(())
 }
 
 // c, w and l of a file whose blocks have passed: the code ends where the
 // instruction after its last would stand.
 fn read_layout(file: &[u8], blocks: u8) -> Layout
     requires { (blocks ≡ blocks_in file.now) × (1 ≤ blocks) × (blocks ≤ most_blocks)
-        × (first_no (checks_below file.now blocks) ≡ Answer.Pass) }
+        × (first_no (checks_below file.now blocks) ≡ Ok tt) }
     ensures { result ≡ layout_of file.now }
 {
     let before = (blocks - 1) as usize;
     let first = block_part(file, 0);
     let last = block_part(file, before);
     let used = field(last, 2) as usize;
-    let end = byte_address(InstructionIndex((BLOCK_CODE * before + used) as u16));
+    let end = ByteAddress::from(InstructionIndex((BLOCK_CODE * before + used) as u16));
     Layout {
         code_bytes: end.0,
         window_start: field(first, 3),
@@ -206,27 +195,24 @@ fn read_layout(file: &[u8], blocks: u8) -> Layout
 }
 
 // Check 8 of a file, the last of its checks.
-fn check_layout(layout: Layout) -> Checked
-    ensures { result ≡ checked_as layout (first_no (whole 8 (layout_fits layout) ∷ [])) }
+fn check_layout(layout: Layout) -> Result<Layout, Refusal>
+    ensures { result ≡ checked_as layout (first_no (whole Check.Window (layout_fits layout) ∷ [])) }
 {
     if !is_window(layout.code_bytes, layout.window_start, layout.window_length) {
-        return Checked::Refused(refusal_of(8));
+        return Err(Refusal::new(Check::Window));
     }
-    Checked::Valid(layout)
+    Ok(layout)
 }
 
 // Puts checks 2 to 8 to a file of any bytes and any length. Each block is read
 // once for its sum.
-pub fn check(file: &[u8]) -> Checked
+pub fn check(file: &[u8]) -> Result<Layout, Refusal>
     ensures { result ≡ check_of file.now }
 {
     if !has_whole_blocks(file) {
-        return Checked::Refused(refusal_of(2));
+        return Err(Refusal::new(Check::FileLength));
     }
     let blocks = (file.len() / BLOCK_BYTES) as u8;
-    let answer = check_blocks(file, blocks);
-    match answer {
-        Answer::Refused(refusal) => Checked::Refused(refusal),
-        Answer::Pass => check_layout(read_layout(file, blocks)),
-    }
+    check_blocks(file, blocks)?;
+    check_layout(read_layout(file, blocks))
 }

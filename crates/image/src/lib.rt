@@ -2,14 +2,12 @@
 // accepted file holds.
 #![tactic(auto)]
 
-mod answer;
 mod block;
 mod checker;
 mod code;
 mod format;
 
-pub use answer::Answer;
-pub use checker::{Checked, Layout, check, is_window};
+pub use checker::{Layout, check, is_window};
 pub use code::code_at;
 pub use format::{
     BLOCK_BYTES, BLOCK_CODE, BLOCK_HALFWORDS, HEADER_BYTES, HEADER_HALFWORDS, MARK, MOST_BLOCKS,

@@ -21,9 +21,7 @@ use Rattle.image.specs.Check.{first_no, check3, check4, check5, check6, check7, 
 use Rattle.image.specs.Check.{layout_of, check_of}
 use Rattle.packer.specs.Pack.{blocks_needed, used_in, header_of, body_halfword, balance_of, image_halfword, image_byte}
 use Rattle.packer.specs.Pack.{image_of}
-use Rattle.image.specs.declared.answer.Answer.TheVariants.{Pass}
 use Rattle.image.specs.declared.checker.Layout.{Layout}
-use Rattle.image.specs.declared.checker.Checked.TheVariants.{Valid}
 use Rattle.sums.proofs.Sums.{sum_same}
 use Rattle.image.proofs.Answers.{head_passed, tail_passed}
 use Rattle.image.proofs.Verdicts.{passed6, used_right_is}
@@ -33,13 +31,14 @@ use Rattle.image.proofs.Valid.{code_length_is, code_halfword_is, valid_layout, v
 use Rattle.image_laws.specs.Claims.{Bytes}
 use Rattle.image_laws.proofs.Unused.{unused_each}
 use Rattle.image_laws.proofs.Places.{half_less, even_place, odd_place}
+use Rattle.std.specs.Prelude.{Ok}
 
 -- a count that is right for its place: the last block's, or a full block's
 used_full : (is_last : Bool) (used : ℕ) → is_last ≡ false → used_right is_last used ≡ true → used ≡ block_code
 used_full false used q e = eqb-true used 249 e
 used_full true used q e = clash (cc)
 
-module _ (file : List ℕ) (layout : Layout) (valid : check_of file ≡ Valid layout) (bytes : Bytes file) where
+module _ (file : List ℕ) (layout : Layout) (valid : check_of file ≡ Ok layout) (bytes : Bytes file) where
   -- its code and its window
   abbrev code : List ℕ
   code = code_of file
@@ -65,7 +64,7 @@ module _ (file : List ℕ) (layout : Layout) (valid : check_of file ≡ Valid la
     abbrev used : ℕ
     used = used_of (block_of file k)
 
-    row : first_no (block_checks file k) ≡ Pass
+    row : first_no (block_checks file k) ≡ (Ok tt)
     row = valid_block file layout valid k hk
 
     says_mark : halfword block 0 ≡ 0xD0C1

@@ -16,19 +16,17 @@ use Rattle.image.specs.Check.{first_no, check2, check3, check4, check5, check6, 
 use Rattle.image.specs.Check.{layout_of, check_of}
 use Rattle.packer.specs.Pack.{body_halfword, balance_of, image_halfword, image_of, check15, check16, blocks_needed}
 use Rattle.packer.specs.Pack.{pack_checks, packed_as, pack_of, output_as, output_of}
-use Rattle.image.specs.declared.answer.Answer.{Answer}
-use Rattle.image.specs.declared.answer.Answer.TheVariants.{Pass, Refused}
-use Rattle.packer.specs.declared.packer.Packed.{Packed}
-use Rattle.packer.specs.declared.packer.Packed.TheVariants.{Done}
 use Rattle.image.proofs.Answers.{passed_head, head_passed, tail_passed}
 use Rattle.image.proofs.Valid.{valid_size, valid_code, valid_code_bytes, valid_fits}
 use Rattle.image_laws.specs.Claims.{PackThenCheck, CheckThenPack, WorkedExample, layout}
 use Rattle.image_laws.proofs.Made.{empty, accepted, code_again}
 use Rattle.image_laws.proofs.Accepted.{blocks_needed_are, image_again}
+use Rattle.std.specs.Prelude.{Result, Ok, Err, ⊤}
+use Rattle.refusals.specs.declared.refusal.Refusal.{Refusal}
 
-done_passed : (a : Answer) → packed_as a ≡ Done → a ≡ Pass
-done_passed Pass e = refl
-done_passed (Refused r) e = clash (cc)
+done_passed : (a : Result ⊤ Refusal) → packed_as a ≡ (Ok tt) → a ≡ (Ok tt)
+done_passed (Ok tt) e = refl
+done_passed (Err r) e = clash (cc)
 
 pub pack_then_check : PackThenCheck
 unfolding pack_of output_of check15
@@ -50,9 +48,9 @@ check_then_pack file c w l out bytes valid same =
     let passed15 = ap₂ ◌&&◌ (le-leb 1 (length code) sized.0) (le-leb (length code) 15936 sized.1) in
     let passed8 = ap (λ (n : ℕ). check8 n w l) (sym (valid_code_bytes file said valid)) ∙ valid_fits file said valid in
     let passed16 = eq-eqb (length out) (512 * blocks_needed (length code)) (omega arith) in
-    let done : pack_of code w l (length out) ≡ Done =
+    let done : pack_of code w l (length out) ≡ (Ok tt) =
     ap packed_as (passed_head _ _ passed15 ∙ passed_head _ _ passed8 ∙ passed_head _ _ passed16 ∙ empty) in
-    (done, ap (λ (a : Packed). output_as a (image_of code w l) out) done ∙ image_again file said valid bytes)
+    (done, ap (λ (a : Result ⊤ Refusal). output_as a (image_of code w l) out) done ∙ image_again file said valid bytes)
 
 pub worked_example : WorkedExample
 unfolding tabulate_from sum_below body_halfword balance_of image_halfword byte_of image_of block_of code_at code_length

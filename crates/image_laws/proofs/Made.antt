@@ -20,8 +20,6 @@ use Rattle.image.specs.Code.{code_at, code_length, code_of}
 use Rattle.image.specs.Check.{first_no, check2, check3, check4, check5, check6, check7, check8, used_right, unused_zero}
 use Rattle.image.specs.Check.{block_checks, layout_of, checked_as, check_of}
 use Rattle.packer.specs.Pack.{blocks_needed, used_in, body_halfword, balance_of, image_halfword, image_of}
-use Rattle.image.specs.declared.answer.Answer.TheVariants.{Pass}
-use Rattle.image.specs.declared.checker.Checked.TheVariants.{Valid}
 use Rattle.sums.proofs.Sums.{sum_less, sum_same, sum_back}
 use Rattle.image.proofs.Blocks.{block_halfword}
 use Rattle.image.proofs.Answers.{passed_head, all_passed}
@@ -30,6 +28,7 @@ use Rattle.packer.proofs.Images.{image_length, image_low, image_high, body_code,
 use Rattle.image.proofs.Valid.{code_length_is, code_halfword_is}
 use Rattle.image_laws.specs.Claims.{layout}
 use Rattle.image_laws.proofs.Unused.{unused_all}
+use Rattle.std.specs.Prelude.{Ok}
 
 -- the last block of n halfwords ends the code, and a block before it is full
 used_right_is : (n k : ℕ) → k < blocks_needed n → used_right (eqb (k + 1) (blocks_needed n)) (used_in n k) ≡ true
@@ -41,7 +40,7 @@ used_right_is n k h =
     (λ lt. rw (ne_eqb (k + 1) (blocks_needed n) (λ q. omega arith)) (eq-eqb (used_in n k) 249 (omega arith)))
     (eq-or-lt_of_le {n = k + 1} {m = blocks_needed n} (omega arith))
 
-pub empty : first_no [] ≡ Pass
+pub empty : first_no [] ≡ (Ok tt)
 unfolding first_no
 empty = refl
 
@@ -134,7 +133,7 @@ module _ (code : List ℕ) (w l : ℕ) where
         (eq-eqb _ _ (start_at k hk ∙ sym (start_at 0 (omega arith))))
         (eq-eqb _ _ (window_at k hk ∙ sym (window_at 0 (omega arith))))
 
-    block_passes : (k : ℕ) → k < blocks_needed (length code) → first_no (block_checks image k) ≡ Pass
+    block_passes : (k : ℕ) → k < blocks_needed (length code) → first_no (block_checks image k) ≡ (Ok tt)
     block_passes k hk =
         passed_head _ _ (passes3 k hk)
         ∙ passed_head _ _ (passes4 k hk)
@@ -168,7 +167,7 @@ module _ (code : List ℕ) (w l : ℕ) where
     layout_again = simp (length_again, start_at 0 (omega arith), window_at 0 (omega arith))
 
     pub accepted : check8 (2 * length code) w l ≡ true
-        → check_of (image_of code w l) ≡ Valid (layout (2 * length code) w l)
+        → check_of (image_of code w l) ≡ Ok (layout (2 * length code) w l)
     accepted fits =
         let said = layout (2 * length code) w l in
         let blocks = all_passed (block_checks image) (blocks_in image)

@@ -16,17 +16,16 @@ use Rattle.image.specs.Check.{layout_of, check_of}
 use Rattle.reader.specs.Reader.{is_left, block_at, given_as, given_of, bytes_of, after_of, answer_of, next_of}
 use Rattle.reader.specs.Reader.{after_next}
 use Rattle.image.specs.declared.checker.Layout.{Layout}
-use Rattle.image.specs.declared.checker.Checked.{Checked}
-use Rattle.image.specs.declared.checker.Checked.TheVariants.{Valid, Refused}
 use Rattle.reader.specs.declared.reader.BlockReader.{BlockReader}
 use Rattle.reader.specs.declared.reader.Given.{Given}
 use Rattle.reader.specs.declared.reader.Given.TheVariants as given
 use Rattle.image.proofs.Blocks.{block_length}
 use Rattle.image.proofs.Valid.{valid_layout}
 use Rattle.image_laws.specs.Claims.{reader_after, ReaderGives, AcceptedGives, RefusedGives, NoneLeftAtEnd}
+use Rattle.std.specs.Prelude.{Result, Ok, Err}
 
 module _ (file : List ℕ) where
-  module _ (said : Layout) (valid : check_of file ≡ Valid said) where
+  module _ (said : Layout) (valid : check_of file ≡ Ok said) where
     given_there : (n : ℕ) → given_of file n ≡ block_at file n
     unfolding given_of
     given_there n = ap (given_as file n) valid
@@ -50,7 +49,7 @@ module _ (file : List ℕ) where
     stays : (n : ℕ) → blocks_in file ≤ n → after_of n (given_of file n) ≡ n
     stays n h = ap (after_of n) (none_left n h)
 
-  module _ (r : Refusal) (refused : check_of file ≡ Refused r) where
+  module _ (r : Refusal) (refused : check_of file ≡ Err r) where
     refusal_there : (n : ℕ) → given_of file n ≡ given.Refused r
     unfolding given_of
     refusal_there n = ap (given_as file n) refused
@@ -60,11 +59,11 @@ module _ (file : List ℕ) where
   past_last n true e h = clash (cc)
   past_last n false e h = ltb-false n (blocks_in file) e
 
-  at_end : (n : ℕ) (a : Checked) → check_of file ≡ a → given_as file n a ≡ given.NoneLeft
-      → (check_of file ≡ Valid (layout_of file)) × (blocks_in file ≤ n)
+  at_end : (n : ℕ) (a : Result Layout Refusal) → check_of file ≡ a → given_as file n a ≡ given.NoneLeft
+      → (check_of file ≡ Ok (layout_of file)) × (blocks_in file ≤ n)
   unfolding block_at
-  at_end n (Valid said) e h = (e ∙ ap Valid (valid_layout file said e), past_last n (is_left file n) refl h)
-  at_end n (Refused r) e h = clash (cc)
+  at_end n (Ok said) e h = (e ∙ ap Ok (valid_layout file said e), past_last n (is_left file n) refl h)
+  at_end n (Err r) e h = clash (cc)
 
 -- the reader of a file that comes to block k next
 module _ (file : Bor (List ℕ)) where
@@ -88,7 +87,7 @@ module _ (file : Bor (List ℕ)) where
   abbrev blocks : ℕ
   blocks = blocks_in file.now
 
-  accepted_after : (said : Layout) → check_of file.now ≡ Valid said → (n : ℕ)
+  accepted_after : (said : Layout) → check_of file.now ≡ Ok said → (n : ℕ)
       → reader_after file n ≡ at_block (min n blocks)
   unfolding reader_after
   accepted_after said valid zero = let start : 0 ≡ min 0 blocks = omega arith in ap at_block start
@@ -100,7 +99,7 @@ module _ (file : Bor (List ℕ)) where
       (lt_or_ge n blocks) in
       ap after_next (accepted_after said valid n) ∙ goes_from (min n blocks) ∙ ap at_block next
 
-  refused_after : (r : Refusal) → check_of file.now ≡ Refused r → (n : ℕ) → reader_after file n ≡ at_block 0
+  refused_after : (r : Refusal) → check_of file.now ≡ Err r → (n : ℕ) → reader_after file n ≡ at_block 0
   unfolding reader_after
   refused_after r refused zero = refl
   refused_after r refused (suc n) =
@@ -108,15 +107,15 @@ module _ (file : Bor (List ℕ)) where
       ∙ goes_from 0
       ∙ ap (λ (g : Given). at_block (after_of 0 g)) (refusal_there file.now r refused 0)
 
-  reads : (n : ℕ) (a : Checked) → check_of file.now ≡ a → Gives n
-  reads n (Valid said) e =
+  reads : (n : ℕ) (a : Result Layout Refusal) → check_of file.now ≡ a → Gives n
+  reads n (Ok said) e =
       let same : given_of file.now (min n blocks) ≡ given_of file.now n =
       ⊎_elim
       (λ lt. let all : min n blocks ≡ n = omega arith in ap (given_of file.now) all)
       (λ ge. none_left file.now said e (min n blocks) (omega arith) ∙ sym (none_left file.now said e n ge))
       (lt_or_ge n blocks) in
       gives_from n (min n blocks) (accepted_after said e n) same
-  reads n (Refused r) e =
+  reads n (Err r) e =
       gives_from n 0 (refused_after r e n)
       (refusal_there file.now r e 0 ∙ sym (refusal_there file.now r e n))
 

@@ -1,5 +1,5 @@
 -- What is claimed of images as a whole ("Image blocks", "The questions", "Bench table"; Change 3).
-use Rattle.std.specs.Prelude.{◌≡◌, List, [], ◌∷◌, ℕ, zero, suc, ◌-◌, ◌*◌, ◌≤◌, ◌<◌, eqb, length, get_or}
+use Rattle.std.specs.Prelude.{◌≡◌, List, [], ◌∷◌, ℕ, zero, suc, ◌-◌, ◌*◌, ◌≤◌, ◌<◌, eqb, length, get_or, Ok, Err}
 use Rattle.std.specs.Borrow.{Bor}
 use Rattle.units.specs.Address.{wrap}
 use Rattle.refusals.specs.declared.refusal.Refusal.{Refusal}
@@ -11,8 +11,6 @@ use Rattle.image.specs.Check.{check4, layout_of, check_of}
 use Rattle.reader.specs.Reader.{given_of, bytes_of, open_of, answer_of, next_of, after_next}
 use Rattle.packer.specs.Pack.{image_of, pack_of, output_of}
 use Rattle.image.specs.declared.checker.Layout.{Layout}
-use Rattle.image.specs.declared.checker.Checked.TheVariants.{Valid, Refused}
-use Rattle.packer.specs.declared.packer.Packed.TheVariants.{Done}
 use Rattle.reader.specs.declared.reader.BlockReader.{BlockReader}
 use Rattle.reader.specs.declared.reader.Given.TheVariants as given
 
@@ -22,8 +20,8 @@ layout c w l = record { code_bytes = c; window_start = w; window_length = l }
 -- what the packer makes, the check accepts, with the same c, w, l and code
 abbrev pub PackThenCheck : Type 0
 PackThenCheck =
-    (code : List ℕ) (w l : ℕ) (out : List ℕ) → pack_of code w l (length out) ≡ Done
-    → (check_of (output_of code w l out) ≡ Valid (layout (2 * length code) w l))
+    (code : List ℕ) (w l : ℕ) (out : List ℕ) → pack_of code w l (length out) ≡ (Ok tt)
+    → (check_of (output_of code w l out) ≡ Ok (layout (2 * length code) w l))
     × (code_of (output_of code w l out) ≡ code)
 
 -- a file of bytes
@@ -35,8 +33,8 @@ Bytes file = (p : ℕ) → get_or file p 0 < 256
 abbrev pub CheckThenPack : Type 0
 CheckThenPack =
     (file : List ℕ) (c w l : ℕ) (out : List ℕ)
-    → Bytes file → check_of file ≡ Valid (layout c w l) → length out ≡ length file
-    → (pack_of (code_of file) w l (length out) ≡ Done) × (output_of (code_of file) w l out ≡ file)
+    → Bytes file → check_of file ≡ Ok (layout c w l) → length out ≡ length file
+    → (pack_of (code_of file) w l (length out) ≡ (Ok tt)) × (output_of (code_of file) w l out ≡ file)
 
 -- calls for halfwords 255 down to n of a block come to the sum of halfwords n to 255 modulo 65,536
 abbrev pub BackwardSum : Type 0
@@ -74,20 +72,20 @@ GivesBlock file n =
 -- an accepted file's blocks come one by one, and after the last none is left, call after call
 abbrev pub AcceptedGives : Type 0
 AcceptedGives =
-    (file : List ℕ) (said : Layout) → check_of file ≡ Valid said → (n : ℕ)
+    (file : List ℕ) (said : Layout) → check_of file ≡ Ok said → (n : ℕ)
     → (n < blocks_in file → GivesBlock file n) × (blocks_in file ≤ n → given_of file n ≡ given.NoneLeft)
 
 -- a refused file answers its own refusal at every call, and gives no byte
 abbrev pub RefusedGives : Type 0
 RefusedGives =
-    (file : List ℕ) (r : Refusal) → check_of file ≡ Refused r → (n : ℕ)
+    (file : List ℕ) (r : Refusal) → check_of file ≡ Err r → (n : ℕ)
     → (given_of file n ≡ given.Refused r) × (bytes_of file (given_of file n) ≡ [])
 
 -- none left is said only of an accepted file, and only after its last block
 abbrev pub NoneLeftAtEnd : Type 0
 NoneLeftAtEnd =
     (file : List ℕ) (n : ℕ) → given_of file n ≡ given.NoneLeft
-    → (check_of file ≡ Valid (layout_of file)) × (blocks_in file ≤ n)
+    → (check_of file ≡ Ok (layout_of file)) × (blocks_in file ≤ n)
 
 -- the bench table's code P, and what stands in its block
 abbrev pub program : List ℕ
@@ -97,5 +95,5 @@ abbrev pub WorkedExample : Type 0
 WorkedExample =
     (length (image_of program 256 256) ≡ 512)
     × (halfword (image_of program 256 256) 255 ≡ 0xC090)
-    × (check_of (image_of program 256 256) ≡ Valid (layout 14 256 256))
+    × (check_of (image_of program 256 256) ≡ Ok (layout 14 256 256))
     × (code_of (image_of program 256 256) ≡ program)

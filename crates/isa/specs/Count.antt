@@ -1,12 +1,11 @@
 -- How many halfwords are defined ("Encodings").
-use Rattle.std.specs.Prelude.{ℕ, zero, suc, ◌+◌}
-use Rattle.isa.specs.declared.decoder.Decoded.{Decoded}
-use Rattle.isa.specs.declared.decoder.Decoded.TheVariants.{Defined, Undefined}
+use Rattle.std.specs.Prelude.{ℕ, zero, suc, ◌+◌, Option, Some, None}
 use Rattle.isa.specs.Decode.{decode_of}
+use Rattle.isa.specs.declared.instruction.Instruction.{Instruction}
 
-abbrev pub one : Decoded → ℕ
-one (Defined i) = 1
-one Undefined = 0
+abbrev pub one : Option Instruction → ℕ
+one (Some i) = 1
+one None = 0
 
 -- of the halfwords below n
 abbrev pub defined_below : ℕ → ℕ

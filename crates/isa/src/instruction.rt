@@ -2,7 +2,7 @@
 // halfword holds them. `rd` and `rs` are registers, `rb` a base register.
 // `MovImm` is the manual's MOV(1), `MovHigh` its MOV(2); `AddHigh` its ADD(1),
 // `AddPc` its ADD(2); `CmpImm`, `Cmp` and `CmpHigh` its CMP(1), (2) and (3).
-#[derive(Drop)]
+#[derive(Clone, Copy, PartialEq, Eq, Debug)]
 pub enum Instruction {
     MovImm { rd: u8, imm: u8 },
     CmpImm { rd: u8, imm: u8 },

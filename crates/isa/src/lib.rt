@@ -5,8 +5,8 @@ mod decoder;
 mod encoder;
 mod instruction;
 
-pub use decoder::{Decoded, decode};
-pub use encoder::{Encoded, encode};
+pub use decoder::decode;
+pub use encoder::encode;
 pub use instruction::Instruction;
 
 // The date on the title page of the manual that decides. Engineers read it

@@ -6,10 +6,7 @@ use native.Mathlib.Omega.{arith}
 use borrow.Author.Tests.{le-ltb}
 use lib.Dec.{T, eqb, eqb→eq}
 use Rattle.units.specs.declared.address.InstructionIndex.{InstructionIndex}
-use Rattle.isa.specs.declared.encoder.Encoded.{Encoded}
-use Rattle.isa.specs.declared.encoder.Encoded.TheVariants.{Halfword, Refused}
 use Rattle.units.specs.Field.{field}
-use Rattle.isa.specs.declared.decoder.Decoded.TheVariants.{Undefined}
 use Rattle.isa.specs.Decode.{decode_of}
 use Rattle.isa.specs.Encode.{encode_of}
 use Rattle.isa.proofs.Halts.{halt_own}
@@ -17,14 +14,16 @@ use Rattle.isa_laws.specs.Claims.{DecodeThenEncode, EncodeThenDecode, HaltNotes,
 use Rattle.isa_laws.specs.Claims.{NumbersExact}
 use Rattle.isa_laws.proofs.Defined.{at_defined}
 use Rattle.isa_laws.proofs.There.{There, there, halt_there}
+use Rattle.std.specs.Prelude.{None, Result, Ok, Err}
+use Rattle.refusals.specs.declared.refusal.Refusal.{Refusal}
 
-abbrev is_halfword : ℕ → Encoded → Bool
-is_halfword h (Halfword k) = eqb k h
-is_halfword h (Refused r) = false
+abbrev is_halfword : ℕ → Result ℕ Refusal → Bool
+is_halfword h (Ok k) = eqb k h
+is_halfword h (Err r) = false
 
-halfword : (h : ℕ) (e : Encoded) → T (is_halfword h e) → e ≡ Halfword h
-halfword h (Halfword k) t = ap Halfword (eqb→eq k h t)
-halfword h (Refused r) t = absurd t
+halfword : (h : ℕ) (e : Result ℕ Refusal) → T (is_halfword h e) → e ≡ Ok h
+halfword h (Ok k) t = ap Ok (eqb→eq k h t)
+halfword h (Err r) t = absurd t
 
 pub decode_then_encode : DecodeThenEncode
 decode_then_encode h l i e = halfword h (encode_of i) (at_defined (λ k j. is_halfword k (encode_of j)) tt h l i e)
@@ -35,7 +34,7 @@ encode_then_decode i h e = subst (There i) e (there i)
 pub halt_notes : HaltNotes
 halt_notes = record { only_below = halt_own; all_below = halt_there; none_above = above }
   where
-    above : (h : ℕ) → 256 ≤ h → h < 0x2000 → decode_of h ≡ Undefined
+    above : (h : ℕ) → 256 ≤ h → h < 0x2000 → decode_of h ≡ None
     above h p q = let e13 : field h 13 3 ≡ 0 = omega arith in simp (e13, le-ltb h 256 p)
 
 pub defined_count : DefinedCount

@@ -7,50 +7,49 @@ use native.Mathlib.Omega.{arith}
 use borrow.Author.Tests.{lt-ltb, ltb-true}
 use lib.Dec.{ltb, lit<}
 use Rattle.units.specs.Field.{field}
+use Rattle.refusals.specs.declared.check.Check.TheVariants as check
 use Rattle.refusals.specs.Refusal.{refusal}
 use Rattle.isa.specs.declared.instruction.Instruction.{Instruction}
 use Rattle.isa.specs.declared.instruction.Instruction.TheVariants.{Halt, MovImm, CmpImm, And, Eor, Asr, Tst, Neg, Cmp}
 use Rattle.isa.specs.declared.instruction.Instruction.TheVariants.{AddHigh, CmpHigh, MovHigh, Str, Ldr, Strb, Ldrb}
 use Rattle.isa.specs.declared.instruction.Instruction.TheVariants.{AddPc, Branch}
-use Rattle.isa.specs.declared.decoder.Decoded.{Decoded}
-use Rattle.isa.specs.declared.decoder.Decoded.TheVariants.{Defined}
-use Rattle.isa.specs.declared.encoder.Encoded.{Encoded}
-use Rattle.isa.specs.declared.encoder.Encoded.TheVariants.{Halfword, Refused}
 use Rattle.isa.specs.Decode.{decode_of, entry, only}
 use Rattle.isa.specs.Encode.{encode_of, imm_form, alu_form, high_form, memory_form, given}
+use Rattle.std.specs.Prelude.{Option, Some, Result, Ok, Err}
+use Rattle.refusals.specs.declared.refusal.Refusal.{Refusal}
 
-abbrev pub There : Instruction → Encoded → Type 0
-There i (Halfword h) = decode_of h ≡ Defined i
-There i (Refused r) = Unit {0}
+abbrev pub There : Instruction → Result ℕ Refusal → Type 0
+There i (Ok h) = decode_of h ≡ Some i
+There i (Err r) = Unit {0}
 
-given_elim : (P : Encoded → Type 0) → P (Refused (refusal 17)) → (b : Bool) (e : Encoded) → (b ≡ true → P e)
+given_elim : (P : Result ℕ Refusal → Type 0) → P (Err (refusal check.Fields)) → (b : Bool) (e : Result ℕ Refusal) → (b ≡ true → P e)
     → P (given b e)
 given_elim P u true e f = f refl
 given_elim P u false e f = u
 
 -- a range test: P where it passes
-under : (i : Instruction) (a n : ℕ) (e : Encoded) → (a < n → There i e) → There i (given (ltb a n) e)
+under : (i : Instruction) (a n : ℕ) (e : Result ℕ Refusal) → (a < n → There i e) → There i (given (ltb a n) e)
 under i a n e f = given_elim (There i) tt (ltb a n) e (λ t. f (ltb-true a n t))
 
 -- each format's instructions, by their operation
-abbrev imms : ℕ → ℕ → List Decoded
-imms rd imm = Defined (MovImm rd imm) ∷ Defined (CmpImm rd imm) ∷ []
+abbrev imms : ℕ → ℕ → List (Option Instruction)
+imms rd imm = Some (MovImm rd imm) ∷ Some (CmpImm rd imm) ∷ []
 
-abbrev alus : ℕ → ℕ → List Decoded
+abbrev alus : ℕ → ℕ → List (Option Instruction)
 alus rs rd =
-    Defined (And rs rd) ∷ Defined (Eor rs rd) ∷ Defined (Asr rs rd)
-    ∷ Defined (Tst rs rd) ∷ Defined (Neg rs rd) ∷ Defined (Cmp rs rd) ∷ []
+    Some (And rs rd) ∷ Some (Eor rs rd) ∷ Some (Asr rs rd)
+    ∷ Some (Tst rs rd) ∷ Some (Neg rs rd) ∷ Some (Cmp rs rd) ∷ []
 
-abbrev highs : ℕ → ℕ → List Decoded
+abbrev highs : ℕ → ℕ → List (Option Instruction)
 highs rs rd =
-    Defined (AddHigh rs rd)
-    ∷ only (ltb 0 (rs / 8 + rd / 8 * 2)) (Defined (CmpHigh rs rd))
-    ∷ Defined (MovHigh rs rd) ∷ []
+    Some (AddHigh rs rd)
+    ∷ only (ltb 0 (rs / 8 + rd / 8 * 2)) (Some (CmpHigh rs rd))
+    ∷ Some (MovHigh rs rd) ∷ []
 
-abbrev memories : ℕ → ℕ → ℕ → List Decoded
+abbrev memories : ℕ → ℕ → ℕ → List (Option Instruction)
 memories offset rb rd =
-    Defined (Str offset rb rd) ∷ Defined (Ldr offset rb rd)
-    ∷ Defined (Strb offset rb rd) ∷ Defined (Ldrb offset rb rd) ∷ []
+    Some (Str offset rb rd) ∷ Some (Ldr offset rb rd)
+    ∷ Some (Strb offset rb rd) ∷ Some (Ldrb offset rb rd) ∷ []
 
 -- the fields of each format's sum
 imm_there : (h op rd imm : ℕ) → h ≡ 0x2000 + op * 0x800 + rd * 0x100 + imm → op < 4 → rd < 8 → imm < 256
@@ -83,7 +82,7 @@ memory_there h op offset rb rd s o p q r =
     simp (e13, e11, e6, e3, e0)
 
 add_pc_there : (h rd imm : ℕ) → h ≡ 0xa000 + rd * 0x100 + imm → rd < 8 → imm < 256
-    → decode_of h ≡ Defined (AddPc rd imm)
+    → decode_of h ≡ Some (AddPc rd imm)
 add_pc_there h rd imm s p q =
     let e13 : field h 13 3 ≡ 5 = omega arith in
     let e11 : field h 11 2 ≡ 0 = omega arith in
@@ -92,7 +91,7 @@ add_pc_there h rd imm s p q =
     simp (e13, e11, e8, e0)
 
 branch_there : (h cond offset : ℕ) → h ≡ 0xd000 + cond * 0x100 + offset → cond < 14 → offset < 256
-    → decode_of h ≡ Defined (Branch cond offset)
+    → decode_of h ≡ Some (Branch cond offset)
 branch_there h cond offset s p q =
     let e13 : field h 13 3 ≡ 6 = omega arith in
     let e12 : field h 12 1 ≡ 1 = omega arith in
@@ -124,14 +123,14 @@ high_there h op rs rd s o p q =
     let t : rd / 8 * 8 + rd % 8 ≡ rd = omega arith in
     simp (f.top, f.mid, f.code, f.pair, f.h1, f.h2, f.low_s, f.low_d, r, t)
 
-imm_case : (i : Instruction) (op rd imm : ℕ) → op < 4 → entry (imms rd imm) op ≡ Defined i
+imm_case : (i : Instruction) (op rd imm : ℕ) → op < 4 → entry (imms rd imm) op ≡ Some i
     → There i (imm_form op rd imm)
 imm_case i op rd imm o e = under i rd 8 _ (λ p. under i imm 256 _ (λ q. imm_there _ op rd imm refl o p q ∙ e))
 
-alu_case : (i : Instruction) (op rs rd : ℕ) → op < 16 → entry (alus rs rd) op ≡ Defined i → There i (alu_form op rs rd)
+alu_case : (i : Instruction) (op rs rd : ℕ) → op < 16 → entry (alus rs rd) op ≡ Some i → There i (alu_form op rs rd)
 alu_case i op rs rd o e = under i rs 8 _ (λ p. under i rd 8 _ (λ q. alu_there _ op rs rd refl o p q ∙ e))
 
-high_case : (i : Instruction) (op rs rd : ℕ) → op < 4 → entry (highs rs rd) op ≡ Defined i
+high_case : (i : Instruction) (op rs rd : ℕ) → op < 4 → entry (highs rs rd) op ≡ Some i
     → There i (high_form op rs rd)
 high_case i op rs rd o e = under i rs 16 _ (λ p. under i rd 16 _ (λ q. high_there _ op rs rd refl o p q ∙ e))
 
@@ -140,13 +139,13 @@ cmp_high_case rs rd m =
     let z : 0 < rs / 8 + rd / 8 * 2 = omega arith in
     high_case (CmpHigh rs rd) 1 rs rd (lit< tt) (simp (lt-ltb _ _ z))
 
-memory_case : (i : Instruction) (op offset rb rd : ℕ) → op < 4 → entry (memories offset rb rd) op ≡ Defined i
+memory_case : (i : Instruction) (op offset rb rd : ℕ) → op < 4 → entry (memories offset rb rd) op ≡ Some i
     → There i (memory_form op offset rb rd)
 memory_case i op offset rb rd o e =
     under i offset 32 _ (λ p. under i rb 8 _ (λ q. under i rd 8 _ (λ r.
     memory_there _ op offset rb rd refl o p q r ∙ e)))
 
-pub halt_there : (note : ℕ) → note < 256 → decode_of note ≡ Defined (Halt note)
+pub halt_there : (note : ℕ) → note < 256 → decode_of note ≡ Some (Halt note)
 halt_there note small =
     let e13 : field note 13 3 ≡ 0 = omega arith in
     let e0 : field note 0 8 ≡ note = omega arith in

@@ -1,11 +1,9 @@
 -- The line of a verdict ("Bench table", the program), as ASCII codes: `fit C W L` or `refused N P`.
-use Rattle.std.specs.Prelude.{[], ◌∷◌, ◌++◌, ◌≡◌, ℕ, ◌-◌, ◌≤◌, length, take, replicate}
+use Rattle.std.specs.Prelude.{[], ◌∷◌, ◌++◌, ◌≡◌, ℕ, ◌-◌, ◌≤◌, length, take, replicate, Result, Ok, Err}
 use Rattle.text.specs.Text.{Text, decimal}
 use Rattle.refusals.specs.Refusal.{place_number}
 use Rattle.refusals.specs.declared.refusal.Refusal.{Refusal}
 use Rattle.image.specs.declared.checker.Layout.{Layout}
-use Rattle.verifier.specs.declared.verifier.Verdict.{Verdict}
-use Rattle.verifier.specs.declared.verifier.Verdict.TheVariants as verdict
 use Rattle.lines.specs.declared.writer.Line.{Line}
 
 -- a space and a number below 100,000 in decimal
@@ -29,9 +27,9 @@ refused_text r =
     ++ number_text (place_number r.place)
     ++ (10 ∷ [])
 
-abbrev pub verdict_text : Verdict → Text
-verdict_text (verdict.Fit layout) = fit_text layout
-verdict_text (verdict.Refused r) = refused_text r
+abbrev pub verdict_text : Result Layout Refusal → Text
+verdict_text (Ok layout) = fit_text layout
+verdict_text (Err r) = refused_text r
 
 -- the bytes of a line, whatever its text
 abbrev pub line_bytes : ℕ

@@ -5,7 +5,6 @@ ghost use Rattle.lines.specs.Lines.{fit_text, refused_text, verdict_text, longes
 use super::writer::{Line, line_of, put, put_number};
 use image::Layout;
 use refusals::Refusal;
-use verifier::Verdict;
 
 // `fit`, the code's length in bytes, the window's start and its length.
 fn fit_line(layout: Layout) -> Line
@@ -25,17 +24,17 @@ fn refused_line(r: Refusal) -> Line
     let place = r.place;
     let word = line_of(b"refused");
     let number = put_number(word, r.number as u16);
-    let whole = put_number(number, refusals::place_number(place));
+    let whole = put_number(number, u16::from(place));
     put(whole, b'\n')
 }
 
 // The line of a verdict, with its line end.
-pub fn verdict_line(v: Verdict) -> Line
+pub fn verdict_line(v: Result<Layout, Refusal>) -> Line
     ensures value { (result ≡ line_of (verdict_text v)) × (result.length ≤ longest_line) }
     ensures within { Within result }
 {
     match v {
-        Verdict::Fit(layout) => fit_line(layout),
-        Verdict::Refused(r) => refused_line(r),
+        Ok(layout) => fit_line(layout),
+        Err(r) => refused_line(r),
     }
 }

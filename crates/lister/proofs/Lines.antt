@@ -15,8 +15,6 @@ use Rattle.units.specs.declared.address.ByteAddress.{ByteAddress}
 use Rattle.isa.specs.Decode.{entry, only, halt_of, imm_table, imm_of, alu_table, alu_of, high_table, high_of}
 use Rattle.isa.specs.Decode.{registers_table}
 use Rattle.isa.specs.Decode.{registers_of, memory_of, add_pc_of, branch_of, table, decode_of}
-use Rattle.isa.specs.declared.decoder.Decoded.{Decoded}
-use Rattle.isa.specs.declared.decoder.Decoded.TheVariants.{Defined, Undefined}
 use Rattle.isa.specs.declared.instruction.Instruction.{Instruction}
 use Rattle.isa.specs.declared.instruction.Instruction.TheVariants.{MovImm, CmpImm, And, Eor, Asr, Tst, Neg, Cmp}
 use Rattle.isa.specs.declared.instruction.Instruction.TheVariants.{AddHigh, CmpHigh, MovHigh, Str, Ldr, Strb, Ldrb}
@@ -24,8 +22,6 @@ use Rattle.isa.specs.declared.instruction.Instruction.TheVariants.{AddPc, Branch
 use Rattle.isa.proofs.Table.{All, entry_keeps, only_keeps}
 use Rattle.targets.specs.Jumps.{jump_of}
 use Rattle.targets.specs.Targets.{jump_at}
-use Rattle.targets.specs.declared.branch.Target.{Target}
-use Rattle.targets.specs.declared.branch.Target.TheVariants.{To, Nowhere}
 use Rattle.text.specs.Text.{Text, quoted, is_same_text, decimal, feed}
 use Rattle.text.proofs.Writing.{decimal_at_most, one_digit, two_at_most, three_at_most}
 use Rattle.syntax.specs.Syntax.{condition_word, register_word, slot_word, fill}
@@ -35,6 +31,7 @@ use Rattle.lister.specs.Lines.{branch_names, mnemonic, name_in, four_letters, na
 use Rattle.lister.specs.Lines.{immediate_text, pair_text, transfer_text, add_pc_text, target_text, registers_text}
 use Rattle.lister.specs.Lines.{memory_text, operands_at, operands_of}
 use Rattle.lister.proofs.Lengths.{last_sum, immediate_sum, pair_sum, place_sum, transfer_sum, add_pc_sum}
+use Rattle.std.specs.Prelude.{Option, Some, None}
 
 -- a line by its pattern is what is written: its first characters, and the texts one behind another
 abbrev end : Text
@@ -105,21 +102,21 @@ named_most name t = go (eqb name 0)
     go false = omega arith
 
 -- how many labels an instruction can bring about
-abbrev pub jumps : Target → ℕ
-jumps (To a) = 1
-jumps Nowhere = 0
+abbrev pub jumps : Option ByteAddress → ℕ
+jumps (Some a) = 1
+jumps None = 0
 
 -- what an instruction's line is, with the texts of its format, and how long: with the label that a branch can bring
 -- about no more than 19 bytes
-pub record Line (a : ByteAddress) (t : Text) (d : Decoded) : Type 0 where
+pub record Line (a : ByteAddress) (t : Text) (d : Option Instruction) : Type 0 where
   pub line : instruction_line a d ≡ named_line (name_in d) t
   pub room : length (instruction_line a d) + 8 * jumps (jump_at a d) ≤ 19
 
-no_line : (a : ByteAddress) (t : Text) → Line a t Undefined
+no_line : (a : ByteAddress) (t : Text) → Line a t None
 no_line a t = record { line = refl; room = omega arith }
 
-plain : (a : ByteAddress) (t : Text) (i : Instruction) → jump_of a i ≡ Nowhere → length t ≤ 15
-    → instruction_line a (Defined i) ≡ named_line (mnemonic i) t → Line a t (Defined i)
+plain : (a : ByteAddress) (t : Text) (i : Instruction) → jump_of a i ≡ None → length t ≤ 15
+    → instruction_line a (Some i) ≡ named_line (mnemonic i) t → Line a t (Some i)
 plain a t i still short is =
     record { line = is; room = omega (arith, ap length is, named_most (mnemonic i) t, ap jumps still) }
 
@@ -133,17 +130,17 @@ low_digit n l = ap length (one_digit n (omega arith))
 
 -- each format
 module _ (a : ByteAddress) (h : ℕ) where
-  keeps_entry : (t : Text) (ds : List Decoded) (n : ℕ) → All (Line a t) ds → Line a t (entry ds n)
+  keeps_entry : (t : Text) (ds : List (Option Instruction)) (n : ℕ) → All (Line a t) ds → Line a t (entry ds n)
   keeps_entry t = entry_keeps (Line a t) (no_line a t)
 
-  keeps_only : (t : Text) (test : Bool) (d : Decoded) → Line a t d → Line a t (only test d)
+  keeps_only : (t : Text) (test : Bool) (d : Option Instruction) → Line a t d → Line a t (only test d)
   keeps_only t = only_keeps (Line a t) (no_line a t)
 
   halt_line : Line a (note_text (field h 0 8)) (halt_of h)
   unfolding fill slot_word
   halt_line =
       let n = field h 0 8 in
-      keeps_only (note_text n) (ltb h 256) (Defined (Halt n))
+      keeps_only (note_text n) (ltb h 256) (Some (Halt n))
       (plain a (note_text n) (Halt n) refl (omega (arith, last_sum n, decimal_at_most n))
       (one_joins (quoted "HALT #") (decimal n)))
 
@@ -160,9 +157,9 @@ module _ (a : ByteAddress) (h : ℕ) where
 
   -- two registers behind the characters s
   module _ (rd rs : ℕ) where
-    pair_line : (s : Text) (i : Instruction) → jump_of a i ≡ Nowhere
-        → instruction_line a (Defined i) ≡ (s ++ (register_word rd ++ (comma ++ (register_word rs ++ [])))) ++ end
-        → s ++ pair_text rd rs ≡ named_line (mnemonic i) (pair_text rd rs) → Line a (pair_text rd rs) (Defined i)
+    pair_line : (s : Text) (i : Instruction) → jump_of a i ≡ None
+        → instruction_line a (Some i) ≡ (s ++ (register_word rd ++ (comma ++ (register_word rs ++ [])))) ++ end
+        → s ++ pair_text rd rs ≡ named_line (mnemonic i) (pair_text rd rs) → Line a (pair_text rd rs) (Some i)
     pair_line s i still is named =
         plain a (pair_text rd rs) i still (omega (arith, pair_sum rd rs, decimal_at_most rd, decimal_at_most rs))
         (is ∙ pair_joins s (register_word rd) (register_word rs) ∙ named)
@@ -188,7 +185,7 @@ module _ (a : ByteAddress) (h : ℕ) where
       let compare = pair_line rd rs (quoted "CMP ") (CmpHigh rs rd) refl refl refl in
       keeps_entry (pair_text rd rs) (high_table h) (field h 8 2)
       (pair_line rd rs (quoted "ADD ") (AddHigh rs rd) refl refl refl
-      ▸ keeps_only (pair_text rd rs) (ltb 0 (field h 6 2)) (Defined (CmpHigh rs rd)) compare
+      ▸ keeps_only (pair_text rd rs) (ltb 0 (field h 6 2)) (Some (CmpHigh rs rd)) compare
       ▸ pair_line rd rs (quoted "MOV ") (MovHigh rs rd) refl refl refl ▸ tt)
 
   registers_line : Line a (registers_text h) (registers_of h)
@@ -203,13 +200,13 @@ module _ (a : ByteAddress) (h : ℕ) where
 
   -- a load or store behind the characters s; of STRB and LDRB their space is in the gap
   module _ (rd rb n : ℕ) (low : rd < 8) (base : rb < 8) where
-    transfer_line : (s gap : Text) (i : Instruction) → length gap + length (decimal n) ≤ 3 → jump_of a i ≡ Nowhere
-        → instruction_line a (Defined i)
+    transfer_line : (s gap : Text) (i : Instruction) → length gap + length (decimal n) ≤ 3 → jump_of a i ≡ None
+        → instruction_line a (Some i)
         ≡ (s ++ (register_word rd ++ (quoted ", [" ++
         (register_word rb ++ (quoted ", #" ++ (decimal n ++ quoted "]"))))))
         ++ end
         → s ++ transfer_text rd rb n ≡ named_line (mnemonic i) (gap ++ transfer_text rd rb n)
-        → Line a (gap ++ transfer_text rd rb n) (Defined i)
+        → Line a (gap ++ transfer_text rd rb n) (Some i)
     transfer_line s gap i few still is named =
         plain a (gap ++ transfer_text rd rb n) i still
         (omega (
@@ -224,7 +221,7 @@ module _ (a : ByteAddress) (h : ℕ) where
 
   memory_at : (rd rb n : ℕ) → rd < 8 → rb < 8 → n < 32 → (k : ℕ)
       → Line a (cond (eqb (k / 2) 0) (transfer_text rd rb (4 * n)) (quoted " " ++ transfer_text rd rb n))
-      (entry (Defined (Str n rb rd) ∷ Defined (Ldr n rb rd) ∷ Defined (Strb n rb rd) ∷ Defined (Ldrb n rb rd) ∷ []) k)
+      (entry (Some (Str n rb rd) ∷ Some (Ldr n rb rd) ∷ Some (Strb n rb rd) ∷ Some (Ldrb n rb rd) ∷ []) k)
   unfolding fill slot_word
   memory_at rd rb n low base small zero =
       transfer_line rd rb (4 * n) low base (quoted "STR ") [] (Str n rb rd)
@@ -254,7 +251,7 @@ module _ (a : ByteAddress) (h : ℕ) where
       let t = add_pc_text r imm in
       let short : length t ≤ 15
       = omega (arith, add_pc_sum r imm, last_sum (4 * imm), low_digit r (omega arith), decimal_at_most (4 * imm)) in
-      keeps_only t (eqb (field h 11 2) 0) (Defined (AddPc r imm))
+      keeps_only t (eqb (field h 11 2) 0) (Some (AddPc r imm))
       (plain a t (AddPc r imm) refl short (add_pc_joins (quoted "ADD ") (register_word r) (decimal (4 * imm))))
 
   -- a branch, by its condition
@@ -262,14 +259,14 @@ module _ (a : ByteAddress) (h : ℕ) where
     abbrev aim : Text
     aim = target_text (branch_target_of a offset)
 
-    branch_is : c < 14 → instruction_line a (Defined (Branch c offset)) ≡ named_line (get_or branch_names c 0) aim
+    branch_is : c < 14 → instruction_line a (Some (Branch c offset)) ≡ named_line (get_or branch_names c 0) aim
     unfolding fill slot_word
     branch_is l =
         branch_joins (condition_word c) (decimal (branch_target_of a offset).0)
         ∙ ap (λ (s : Text). s ++ aim) (sym (branch_name c l))
         ∙ sym (named_some (get_or branch_names c 0) aim (branch_some c l))
 
-    branch_at : (b : Bool) → ltb c 14 ≡ b → Line a aim (only b (Defined (Branch c offset)))
+    branch_at : (b : Bool) → ltb c 14 ≡ b → Line a aim (only b (Some (Branch c offset)))
     branch_at true e =
         let is = branch_is (ltb-true c 14 e) in
         let address = (branch_target_of a offset).0 in
@@ -288,7 +285,7 @@ module _ (a : ByteAddress) (h : ℕ) where
 
   branch_line : Line a (target_text (branch_target_of a (field h 0 8))) (branch_of h)
   branch_line =
-      keeps_only _ (eqb (field h 12 1) 1) (only (ltb (field h 8 4) 14) (Defined (Branch (field h 8 4) (field h 0 8))))
+      keeps_only _ (eqb (field h 12 1) 1) (only (ltb (field h 8 4) 14) (Some (Branch (field h 8 4) (field h 0 8))))
       (branch_at (field h 8 4) (field h 0 8) (ltb (field h 8 4) 14) refl)
 
   pub instruction_line_is : Line a (operands_of a h) (decode_of h)

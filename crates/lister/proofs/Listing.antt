@@ -11,7 +11,6 @@ use Rattle.units.specs.Address.{byte_address_of}
 use Rattle.units.specs.declared.address.ByteAddress.{ByteAddress}
 use Rattle.units.specs.declared.address.InstructionIndex.{InstructionIndex}
 use Rattle.isa.specs.Decode.{decode_of}
-use Rattle.isa.specs.declared.decoder.Decoded.{Decoded}
 use Rattle.image.specs.Format.{most_code}
 use Rattle.targets.specs.Targets.{address_of, decoded_at, targeted, marked_at}
 use Rattle.text.specs.Text.{Text, written}
@@ -19,6 +18,8 @@ use Rattle.text.proofs.Writing.{written_more, written_length}
 use Rattle.lister.specs.List.{label_line, instruction_line, lines_at, listing_below, listing_of}
 use Rattle.lister.specs.Passes.{lines_with, Labelled}
 use Rattle.lister.proofs.Lines.{lines_most}
+use Rattle.std.specs.Prelude.{Option}
+use Rattle.isa.specs.declared.instruction.Instruction.{Instruction}
 
 -- one instruction more
 module _ (code : List ℕ) where
@@ -89,7 +90,7 @@ module _ (code marks : List ℕ) (is : Labelled code marks) (k : ℕ) (inside : 
 
 -- label and line, at the address and with the mark of instruction i
 module _ (marks : List ℕ) (i : InstructionIndex) (a : ByteAddress) (there : a ≡ byte_address_of i) (t : Bool)
-    (told : t ≡ marked_at marks i.0) (d : Decoded) where
+    (told : t ≡ marked_at marks i.0) (d : Option Instruction) where
   pub lines_told : lines_with t a d ≡ lines_with (marked_at marks i.0) (byte_address_of i) d
   lines_told = rw (there, told) refl
 

@@ -8,12 +8,11 @@ use borrow.Author.Tests.{leb-true, not-true, not-false}
 use lib.Dec.{leb}
 use lib.ListN.{length, drop, replicate, length-append, length-drop, length-replicate}
 use lib.Seq.{sets-eq, length-take-le}
+use Rattle.refusals.specs.declared.check.Check.TheVariants as check
 use Rattle.refusals.specs.Refusal.{refusal}
 use Rattle.refusals.specs.declared.refusal.Refusal.{Refusal}
 use Rattle.image.specs.Check.{first_no, rows_below, whole}
 use Rattle.image.specs.Format.{most_code}
-use Rattle.image.specs.declared.answer.Answer.{Answer}
-use Rattle.image.specs.declared.answer.Answer.TheVariants.{Pass, Refused}
 use Rattle.image.proofs.Answers.{or_else, first_append, passed_head}
 use Rattle.targets.specs.Marks.{Unmarked}
 use Rattle.targets.specs.Targets.{mark_words}
@@ -24,12 +23,12 @@ use Rattle.lister.specs.List.{check15, checks_at, check16, listing_of, Listing, 
 use Rattle.lister.specs.List.{listed_as, output_after}
 use Rattle.lister.specs.Passes.{fitted_of}
 use Rattle.lister.specs.Show.{line_bytes, line_of, Within}
-use Rattle.lister.specs.declared.lister.Listed.TheVariants as listed
 use Rattle.lister.specs.declared.showing.Line.{Line}
+use Rattle.std.specs.Prelude.{Result, Ok, Err, ⊤}
 
 -- a refusal is the answer, and leaves the output as it was
 pub refused : (l : Listing) {r : Refusal} (out : Text) → l ≡ Refuses r
-    → (listed.Refused r ≡ listed_as l) × (out ≡ output_after l out)
+    → (Err r ≡ listed_as l) × (out ≡ output_after l out)
 refused l out e = rw e (refl, refl)
 
 -- a text at the front of a room
@@ -49,31 +48,31 @@ none_yet = record { words = length-replicate {A = ℕ} mark_words 0; none = none
 
 -- check 15
 module _ (code : List ℕ) (size : ℕ) where
-  pub no_program : {r : Refusal} (t : Bool) → t ≡ check15 code → not t ≡ true → r ≡ refusal 15
+  pub no_program : {r : Refusal} (t : Bool) → t ≡ check15 code → not t ≡ true → r ≡ refusal check.CodeLength
       → list_of code size ≡ Refuses r
   unfolding list_of first_no
   no_program t is e q = simp (q, sym is ∙ not-true t e)
 
   -- 9 and 13 of each instruction
-  module _ (t : Bool) (is : t ≡ check15 code) (held : not t ≡ false) (a : Answer)
+  module _ (t : Bool) (is : t ≡ check15 code) (held : not t ≡ false) (a : Result ⊤ Refusal)
       (came : a ≡ first_no (rows_below (checks_at code) (length code))) where
     then_rows : list_of code size ≡ listing_as (listing_of code)
-        (or_else a (first_no (whole 16 (check16 code size) ∷ [])))
+        (or_else a (first_no (whole check.OutputLength (check16 code size) ∷ [])))
     unfolding list_of
     then_rows =
         ap (listing_as (listing_of code))
         (passed_head _ _ (sym is ∙ not-false t held) ∙ first_append _ _
-        ∙ ap (λ (x : Answer). or_else x (first_no (whole 16 (check16 code size) ∷ []))) (sym came))
+        ∙ ap (λ (x : Result ⊤ Refusal). or_else x (first_no (whole check.OutputLength (check16 code size) ∷ []))) (sym came))
 
-    pub no_instruction : {r : Refusal} → a ≡ Refused r → list_of code size ≡ Refuses r
+    pub no_instruction : {r : Refusal} → a ≡ Err r → list_of code size ≡ Refuses r
     no_instruction e = rw e at then_rows
 
-    pub all_instructions : a ≡ Pass → list_of code size ≡ fitted_of code size
+    pub all_instructions : a ≡ (Ok tt) → list_of code size ≡ fitted_of code size
     all_instructions e = rw e at then_rows
 
 -- check 16
 module _ (code : List ℕ) (out : Text) (t : Bool) (is : t ≡ check16 code (length out)) where
-  pub no_room : {r : Refusal} → not t ≡ true → r ≡ refusal 16 → fitted_of code (length out) ≡ Refuses r
+  pub no_room : {r : Refusal} → not t ≡ true → r ≡ refusal check.OutputLength → fitted_of code (length out) ≡ Refuses r
   unfolding first_no
   no_room e q = simp (q, sym is ∙ not-true t e)
 
@@ -86,10 +85,10 @@ module _ (code : List ℕ) (out : Text) (t : Bool) (is : t ≡ check16 code (len
     with_room = simp (sym is ∙ not-false t held)
 
     pub done : (n : ℕ) (after : Text) → (n ≡ length (listing_of code)) × (after ≡ written 0 (listing_of code) out)
-        → (listed.Done n ≡ listed_as (fitted_of code (length out)))
+        → (Ok n ≡ listed_as (fitted_of code (length out)))
         × (after ≡ output_after (fitted_of code (length out)) out)
     done n after put =
-        rw with_room (ap listed.Done put.0, put.1 ∙ written_front (listing_of code) out has_room)
+        rw with_room (ap Ok put.0, put.1 ∙ written_front (listing_of code) out has_room)
 
 -- the output stays as long as it was
 pub after_length : (code : List ℕ) (out : Text) → length (output_after (fitted_of code (length out)) out) ≡ length out
@@ -97,7 +96,7 @@ unfolding first_no
 after_length code out = go (check16 code (length out)) refl
   where
     go : (t : Bool) → check16 code (length out) ≡ t
-        → length (output_after (listing_as (listing_of code) (cond t Pass (Refused (refusal 16)))) out) ≡ length out
+        → length (output_after (listing_as (listing_of code) (cond t (Ok tt) (Err (refusal check.OutputLength)))) out) ≡ length out
     go true e =
         let long = leb-true (length (listing_of code)) (length out) e in
         simp (length-append, length-drop) (omega arith)

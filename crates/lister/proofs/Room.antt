@@ -10,11 +10,11 @@ use lib.ListN.{length, get_or, length-append}
 use Rattle.units.specs.Address.{instruction_index_of}
 use Rattle.isa.specs.Decode.{decode_of}
 use Rattle.targets.specs.Targets.{address_of, decoded_at, jump_at, lands_on, goes_to, targeted_below, targeted}
-use Rattle.targets.specs.declared.branch.Target.{Target}
-use Rattle.targets.specs.declared.branch.Target.TheVariants.{To, Nowhere}
 use Rattle.lister.specs.List.{label_line, instruction_line, lines_at, listing_below, listing_of}
 use Rattle.lister.proofs.Lines.{jumps, instruction_line_is, label_most}
 use Rattle.lister.proofs.Listing.{listing_more}
+use Rattle.std.specs.Prelude.{Option, Some, None}
+use Rattle.units.specs.declared.address.ByteAddress.{ByteAddress}
 
 -- how many of the first n numbers pass a test
 abbrev one : Bool → ℕ
@@ -52,9 +52,9 @@ count_one x (suc n) = go (eqb x n) refl (count_one x n)
     go false e few = omega arith
 
 -- so no more instructions are targets than there are branches
-count_landing : (t : Target) (n : ℕ) → count (lands_on t) n ≤ jumps t
-count_landing (To a) n = count_one (instruction_index_of a).0 n
-count_landing Nowhere n = omega (arith, count_none n)
+count_landing : (t : Option ByteAddress) (n : ℕ) → count (lands_on t) n ≤ jumps t
+count_landing (Some a) n = count_one (instruction_index_of a).0 n
+count_landing None n = omega (arith, count_none n)
 
 module _ (code : List ℕ) where
   abbrev jumps_below : ℕ → ℕ

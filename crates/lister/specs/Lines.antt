@@ -1,12 +1,10 @@
 -- Instructions' lines as they are written: the first four characters tell the instruction, what follows goes by its
 -- format. Only the contracts of private functions speak of it.
-use Rattle.std.specs.Prelude.{cond, List, [], ◌∷◌, ◌++◌, ℕ, ◌+◌, ◌*◌, ◌/◌, ◌%◌, eqb, get_or}
+use Rattle.std.specs.Prelude.{cond, List, [], ◌∷◌, ◌++◌, ℕ, ◌+◌, ◌*◌, ◌/◌, ◌%◌, eqb, get_or, Option, Some, None}
 use Prim.Native.Char.{code}
 use Rattle.units.specs.Address.{branch_target_of}
 use Rattle.units.specs.Field.{field, high_rs, high_rd}
 use Rattle.units.specs.declared.address.ByteAddress.{ByteAddress}
-use Rattle.isa.specs.declared.decoder.Decoded.{Decoded}
-use Rattle.isa.specs.declared.decoder.Decoded.TheVariants.{Defined, Undefined}
 use Rattle.isa.specs.declared.instruction.Instruction.{Instruction}
 use Rattle.isa.specs.declared.instruction.Instruction.TheVariants.{MovImm, CmpImm, And, Eor, Asr, Tst, Neg, Cmp}
 use Rattle.isa.specs.declared.instruction.Instruction.TheVariants.{AddHigh, CmpHigh, MovHigh, Str, Ldr, Strb, Ldrb}
@@ -57,9 +55,9 @@ mnemonic (Branch condition offset) = get_or branch_names condition 0
 mnemonic (Halt note) = letters (quoted "HALT")
 
 -- 0 for none
-abbrev pub name_in : Decoded → ℕ
-name_in (Defined i) = mnemonic i
-name_in Undefined = 0
+abbrev pub name_in : Option Instruction → ℕ
+name_in (Some i) = mnemonic i
+name_in None = 0
 
 -- a line of these characters and what follows them; no line for 0
 abbrev pub named_line : ℕ → Text → Text

@@ -2,24 +2,20 @@
 use Rattle.std.specs.Prelude.{Bool, cond, ◌&&◌, List, [], ◌∷◌, ◌++◌, ℕ, zero, suc, ◌*◌, leb, length, drop}
 use Rattle.units.specs.Address.{branch_target_of}
 use Rattle.units.specs.declared.address.ByteAddress.{ByteAddress}
+use Rattle.refusals.specs.declared.check.Check.TheVariants as check
 use Rattle.refusals.specs.declared.refusal.Refusal.{Refusal}
-use Rattle.isa.specs.declared.decoder.Decoded.{Decoded}
-use Rattle.isa.specs.declared.decoder.Decoded.TheVariants.{Defined, Undefined}
 use Rattle.isa.specs.declared.instruction.Instruction.{Instruction}
 use Rattle.isa.specs.declared.instruction.Instruction.TheVariants.{MovImm, CmpImm, And, Eor, Asr, Tst, Neg, Cmp}
 use Rattle.isa.specs.declared.instruction.Instruction.TheVariants.{AddHigh, CmpHigh, MovHigh, Str, Ldr, Strb, Ldrb}
 use Rattle.isa.specs.declared.instruction.Instruction.TheVariants.{AddPc, Branch, Halt}
 use Rattle.image.specs.Format.{most_code}
 use Rattle.image.specs.Check.{Asked, whole, first_no, rows_below}
-use Rattle.image.specs.declared.answer.Answer.{Answer}
-use Rattle.image.specs.declared.answer.Answer.TheVariants as answer
 use Rattle.image.specs.declared.checker.Layout.{Layout}
 use Rattle.targets.specs.Targets.{address_of, decoded_at, targeted}
 use Rattle.checks.specs.Questions.{at_address, check9, check13}
 use Rattle.text.specs.Text.{Text}
 use Rattle.syntax.specs.Syntax.{Item, line_with, label_row}
-use Rattle.lister.specs.declared.lister.Listed.{Listed}
-use Rattle.lister.specs.declared.lister.Listed.TheVariants as listed
+use Rattle.std.specs.Prelude.{Option, Some, None, Result, Ok, Err, ⊤}
 
 -- an instruction's row, and the values of its slots in the order of the line; offsets in bytes, and of a branch the
 -- address that it goes to
@@ -47,9 +43,9 @@ abbrev pub item_line : Item → Text
 item_line x = line_with x.row x.values
 
 -- the line of the instruction at an address; an undefined halfword has none
-abbrev pub instruction_line : ByteAddress → Decoded → Text
-instruction_line a (Defined i) = item_line (item_of a i)
-instruction_line a Undefined = []
+abbrev pub instruction_line : ByteAddress → Option Instruction → Text
+instruction_line a (Some i) = item_line (item_of a i)
+instruction_line a None = []
 
 -- the label of the instruction at an address, if a branch goes there
 abbrev pub label_line : Bool → ByteAddress → Text
@@ -76,10 +72,10 @@ abbrev pub layout_for : List ℕ → Layout
 layout_for code = record { code_bytes = 2 * length code; window_start = 0; window_length = 0 }
 
 -- 9 and 13 of an instruction; 13 is not put where 9 gets a no
-abbrev pub instruction_checks : Layout → ByteAddress → Decoded → List Asked
-instruction_checks layout a Undefined = at_address a 9 (check9 Undefined) ∷ []
-instruction_checks layout a (Defined i) =
-    at_address a 9 (check9 (Defined i)) ∷ at_address a 13 (check13 layout a i) ∷ []
+abbrev pub instruction_checks : Layout → ByteAddress → Option Instruction → List Asked
+instruction_checks layout a None = at_address a check.Defined (check9 None) ∷ []
+instruction_checks layout a (Some i) =
+    at_address a check.Defined (check9 (Some i)) ∷ at_address a check.Target (check13 layout a i) ∷ []
 
 abbrev pub checks_at : List ℕ → ℕ → List Asked
 checks_at code i = instruction_checks (layout_for code) (address_of i) (decoded_at code i)
@@ -91,25 +87,25 @@ check16 code size = leb (length (listing_of code)) size
 -- all that is put, in order
 abbrev pub list_checks : List ℕ → ℕ → List Asked
 list_checks code size =
-    whole 15 (check15 code) ∷ (rows_below (checks_at code) (length code) ++ (whole 16 (check16 code size) ∷ []))
+    whole check.CodeLength (check15 code) ∷ (rows_below (checks_at code) (length code) ++ (whole check.OutputLength (check16 code size) ∷ []))
 
 -- the text, or the refusal
 pub data Listing : Type 0 where
   Lists : Text → Listing
   Refuses : Refusal → Listing
 
-abbrev pub listing_as : Text → Answer → Listing
-listing_as t answer.Pass = Lists t
-listing_as t (answer.Refused r) = Refuses r
+abbrev pub listing_as : Text → Result ⊤ Refusal → Listing
+listing_as t (Ok tt) = Lists t
+listing_as t (Err r) = Refuses r
 
 -- of a code, into an output of so many bytes
 unfoldable pub list_of : List ℕ → ℕ → Listing
 list_of code size = listing_as (listing_of code) (first_no (list_checks code size))
 
 -- the lister's answer: the length of the text, or the refusal
-abbrev pub listed_as : Listing → Listed
-listed_as (Lists t) = listed.Done (length t)
-listed_as (Refuses r) = listed.Refused r
+abbrev pub listed_as : Listing → Result ℕ Refusal
+listed_as (Lists t) = Ok (length t)
+listed_as (Refuses r) = Err r
 
 -- the output afterwards: the text over its front, or what it was before if the lister refuses
 abbrev pub output_after : Listing → Text → Text

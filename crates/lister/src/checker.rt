@@ -1,39 +1,26 @@
 // Checks 9 and 13 of a code, and the marks of its branch targets.
-ghost use Rattle.std.specs.Prelude.{cond, ◌≡◌, ◌≤◌, length};
-ghost use Rattle.refusals.specs.Refusal.{refusal_at};
+ghost use Rattle.std.specs.Prelude.{◌≡◌, ◌≤◌, length};
+ghost use Rattle.refusals.specs.Check.{outcome};
 ghost use Rattle.isa.specs.Decode.{decode_of};
 ghost use Rattle.image.specs.Format.{most_code};
 ghost use Rattle.targets.specs.Marks.{Unmarked};
 ghost use Rattle.checks.specs.Questions.{stays_in_code};
 ghost use Rattle.lister.specs.List.{layout_for};
-ghost use Rattle.lister.specs.Passes.{number_of, CheckedAs};
+ghost use Rattle.lister.specs.Passes.{found_in, CheckedAs};
 
 use checks::check_target;
-use image::{Answer, Layout};
-use isa::{Decoded, decode};
-use refusals::{Place, Refusal};
-use targets::{Target, jump, mark_target};
+use image::Layout;
+use isa::decode;
+use refusals::{Check, Refusal};
+use targets::{jump, mark_target};
 use units::{ByteAddress, InstructionIndex};
-
-// Check 9 of a halfword that is no instruction.
-const UNDEFINED: u8 = 9;
-
-// The refusal of the instruction at an address.
-fn refusal_at(number: u8, a: ByteAddress) -> Refusal
-    ensures { result ≡ refusal_at number a }
-{
-    Refusal {
-        number,
-        place: Place::Address(a),
-    }
-}
 
 // Where a code ends that stands from address 0 on.
 fn layout_for(code: &[u16]) -> Layout
     requires { length code.now ≤ most_code }
     ensures { result ≡ layout_for code.now }
 {
-    let end = units::byte_address(InstructionIndex(code.len() as u16));
+    let end = ByteAddress::from(InstructionIndex(code.len() as u16));
     Layout {
         code_bytes: end.0,
         window_start: 0,
@@ -41,30 +28,30 @@ fn layout_for(code: &[u16]) -> Layout
     }
 }
 
-// Check 13, as its number or 0.
-fn check_jump(layout: Layout, target: Target) -> u8
-    ensures { result ≡ cond (stays_in_code layout target) 0 13 }
+// Check 13 of what a halfword can jump to.
+fn check_jump(layout: Layout, target: Option<ByteAddress>) -> Result<(), Check>
+    ensures { result ≡ outcome Check.Target (stays_in_code layout target) }
 {
     match target {
-        Target::To(a) => check_target(a, layout),
-        Target::Nowhere => 0,
+        Some(a) => check_target(a, layout),
+        None => Ok(()),
     }
 }
 
-// The first of checks 9 and 13 that the halfword at an address fails, or 0.
-fn check_halfword(layout: Layout, a: ByteAddress, h: u16) -> u8
-    ensures { result ≡ number_of layout a (decode_of h) }
+// The first of checks 9 and 13 that the halfword at an address fails, if one does.
+fn check_halfword(layout: Layout, a: ByteAddress, h: u16) -> Result<(), Check>
+    ensures { result ≡ found_in layout a (decode_of h) }
 {
     match decode(h) {
-        Decoded::Undefined => UNDEFINED,
-        Decoded::Defined(_) => check_jump(layout, jump(a, h)),
+        None => Err(Check::Defined),
+        Some(_) => check_jump(layout, jump(a, h)),
     }
 }
 
 // Checks 9 and 13 of a code, instruction by instruction, lowest address first.
 // Where nothing is marked yet and all pass, the marks are those of the code's
 // branch targets.
-pub(crate) fn check_code(code: &[u16], marks: &mut [u64; 249]) -> Answer
+pub(crate) fn check_code(code: &[u16], marks: &mut [u64; 249]) -> Result<(), Refusal>
     requires { (length code.now ≤ most_code) × Unmarked marks.old }
     ensures { CheckedAs code.now result marks.new }
 {
@@ -73,13 +60,12 @@ pub(crate) fn check_code(code: &[u16], marks: &mut [u64; 249]) -> Answer
     while k < code.len() {
         let h = code[k];
         let i = InstructionIndex(k as u16);
-        let a = units::byte_address(i);
-        let no = check_halfword(layout, a, h);
-        if no != 0 {
-            return Answer::Refused(refusal_at(no, a));
+        let a = ByteAddress::from(i);
+        if let Err(check) = check_halfword(layout, a, h) {
+            return Err(Refusal::at(check, a));
         }
         mark_target(marks, i, h);
         k += 1;
     }
-    Answer::Pass
+    Ok(())
 }

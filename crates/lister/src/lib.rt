@@ -10,5 +10,5 @@ mod operands;
 mod showing;
 mod writer;
 
-pub use lister::{Listed, list};
+pub use lister::list;
 pub use showing::{Line, instruction_line};

@@ -5,16 +5,8 @@ ghost use Rattle.lister.specs.Passes.{Labelled, fitted_of};
 
 use super::checker::check_code;
 use super::writer::{measure, write};
-use image::{Answer, MOST_CODE};
-use refusals::{Refusal, refusal_of};
-
-// The lister's answer: the length of the text that the output holds, or the first
-// check that failed, with the output as it was.
-#[derive(Drop)]
-pub enum Listed {
-    Done(usize),
-    Refused(Refusal),
-}
+use image::MOST_CODE;
+use refusals::{Check, Refusal};
 
 // Check 15.
 fn is_program(code: &[u16]) -> bool
@@ -43,32 +35,30 @@ fn has_room(code: &[u16], marks: &[u64; 249], room: usize) -> bool
 }
 
 // Check 16, and the listing.
-fn write_listing(code: &[u16], marks: &[u64; 249], out: &mut [u8]) -> Listed
+fn write_listing(code: &[u16], marks: &[u64; 249], out: &mut [u8]) -> Result<usize, Refusal>
     requires { Labelled code.now marks.now }
     ensures { (result ≡ listed_as (fitted_of code.now (length out.old)))
         × (out.new
         ≡ output_after (fitted_of code.now (length out.old)) out.old) }
 {
     if !has_room(code, marks, out.len()) {
-        return Listed::Refused(refusal_of(16));
+        return Err(Refusal::new(Check::OutputLength));
     }
-    Listed::Done(write(out, code, marks))
+    Ok(write(out, code, marks))
 }
 
 // Writes a code as a text: a line for each instruction, and before each that a
 // branch goes to a label, `a` and its address. What is beyond the text stays as
 // it was.
-pub fn list(code: &[u16], out: &mut [u8]) -> Listed
+pub fn list(code: &[u16], out: &mut [u8]) -> Result<usize, Refusal>
     ensures { (result ≡ listed_as (list_of code.now (length out.old)))
         × (out.new
         ≡ output_after (list_of code.now (length out.old)) out.old) }
 {
     if !is_program(code) {
-        return Listed::Refused(refusal_of(15));
+        return Err(Refusal::new(Check::CodeLength));
     }
     let mut marks = [0u64; 249];
-    match check_code(code, &mut marks) {
-        Answer::Refused(refusal) => Listed::Refused(refusal),
-        Answer::Pass => write_listing(code, &marks, out),
-    }
+    check_code(code, &mut marks)?;
+    write_listing(code, &marks, out)
 }

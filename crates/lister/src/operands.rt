@@ -159,6 +159,6 @@ pub(crate) fn put_operands(out: &mut [u8], at: usize, a: ByteAddress, h: u16) ->
         2 => put_registers(out, at, h),
         3 => put_memory(out, at, h),
         5 => put_add_pc(out, at, bits(h, 8, 3), bits(h, 0, 8)),
-        _ => put_target(out, at, units::branch_target(a, bits(h, 0, 8))),
+        _ => put_target(out, at, a.branch_target(bits(h, 0, 8))),
     }
 }

@@ -55,7 +55,7 @@ fn put_lines(out: &mut [u8], at: usize, marks: &[u64; 249], i: InstructionIndex,
         × (out.new ≡ written at
         (lines_with (marked_at marks.now i.0) (byte_address_of i) (decode_of h)) out.old) }
 {
-    let a = units::byte_address(i);
+    let a = ByteAddress::from(i);
     let marked = is_marked(marks, i);
     let next = put_label(out, at, a, marked);
     put_instruction(out, next, a, h)

@@ -1,16 +1,14 @@
 -- Loading ("The questions", "Loading"): check 1, the verifier's checks, and the memory that a load leaves.
-use Rattle.std.specs.Prelude.{Bool, ◌&&◌, cond, List, ℕ, ◌+◌, ◌%◌, eqb, leb, ltb, length, get_or}
+use Rattle.std.specs.Prelude.{Bool, ◌&&◌, cond, List, ℕ, ◌+◌, ◌%◌, eqb, leb, ltb, length, get_or, Result, Ok, Err}
 use Rattle.units.specs.Bytes.{byte_of}
 use Rattle.units.specs.Address.{instruction_index_of, memory_bytes}
+use Rattle.refusals.specs.declared.check.Check.TheVariants as check
 use Rattle.refusals.specs.Refusal.{refusal}
 use Rattle.image.specs.Code.{code_of}
 use Rattle.image.specs.Format.{tabulate}
 use Rattle.image.specs.declared.checker.Layout.{Layout}
 use Rattle.verifier.specs.Verify.{verify_of}
-use Rattle.verifier.specs.declared.verifier.Verdict.{Verdict}
-use Rattle.verifier.specs.declared.verifier.Verdict.TheVariants as verdict
-use Rattle.loader.specs.declared.loader.Loaded.{Loaded}
-use Rattle.loader.specs.declared.loader.Loaded.TheVariants.{Done, Refused}
+use Rattle.refusals.specs.declared.refusal.Refusal.{Refusal}
 
 -- byte a of an image's code: one of the two of the instruction that it belongs to
 unfoldable pub code_byte : List ℕ → ℕ → ℕ
@@ -28,18 +26,18 @@ loaded_byte_of file layout memory a =
 abbrev pub loaded_memory : List ℕ → Layout → List ℕ → List ℕ
 loaded_memory file layout memory = tabulate (loaded_byte_of file layout memory) memory_bytes
 
-abbrev pub loaded_as : Verdict → Loaded
-loaded_as (verdict.Fit layout) = Done layout
-loaded_as (verdict.Refused r) = Refused r
+abbrev pub loaded_as : Result Layout Refusal → Result Layout Refusal
+loaded_as (Ok layout) = Ok layout
+loaded_as (Err r) = Err r
 
 -- check 1, of the memory; then checks 2 to 14, of the file
-unfoldable pub load_of : List ℕ → List ℕ → Loaded
-load_of file memory = cond (eqb (length memory) memory_bytes) (loaded_as (verify_of file)) (Refused (refusal 1))
+unfoldable pub load_of : List ℕ → List ℕ → Result Layout Refusal
+load_of file memory = cond (eqb (length memory) memory_bytes) (loaded_as (verify_of file)) (Err (refusal check.MemorySize))
 
 -- the memory afterwards; a refusal leaves it alone
-abbrev pub memory_as : Loaded → List ℕ → List ℕ → List ℕ
-memory_as (Done layout) file memory = loaded_memory file layout memory
-memory_as (Refused r) file memory = memory
+abbrev pub memory_as : Result Layout Refusal → List ℕ → List ℕ → List ℕ
+memory_as (Ok layout) file memory = loaded_memory file layout memory
+memory_as (Err r) file memory = memory
 
 unfoldable pub memory_after_load : List ℕ → List ℕ → List ℕ
 memory_after_load file memory = memory_as (load_of file memory) file memory

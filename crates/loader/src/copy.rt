@@ -6,7 +6,7 @@ ghost use Rattle.image.specs.Format.{block_code};
 ghost use Rattle.loader.specs.Copy.{with_code, with_block, cleared};
 
 use image::{BLOCK_BYTES, BLOCK_CODE, HEADER_BYTES};
-use units::{InstructionIndex, halfword_at, put_halfword};
+use units::{ByteAddress, InstructionIndex, halfword_at, put_halfword};
 
 // How many of `left` instructions the next block holds.
 fn in_block(left: usize) -> usize
@@ -23,7 +23,7 @@ fn copy_block(file: &[u8], memory: &mut [u8], k: usize, n: usize)
     requires by_index { (i : ℕ) → i < block_code * k + n → code_position i + 2 ≤ length file.now }
     ensures { memory.new ≡ with_block file.now k n memory.old }
 {
-    let first = units::byte_address(InstructionIndex((BLOCK_CODE * k) as u16));
+    let first = ByteAddress::from(InstructionIndex((BLOCK_CODE * k) as u16));
     let from = BLOCK_BYTES * k + HEADER_BYTES;
     let to = first.0 as usize;
     let mut i = 0;

@@ -4,4 +4,4 @@
 mod copy;
 mod loader;
 
-pub use loader::{Loaded, load};
+pub use loader::load;

@@ -1,32 +1,23 @@
 // The load of a program: checks first, then memory.
-ghost use Rattle.std.specs.Prelude.{◌≡◌, length};
+ghost use Rattle.std.specs.Prelude.{◌≡◌, length, Ok};
 ghost use Rattle.units.specs.Address.{memory_bytes};
 ghost use Rattle.verifier.specs.Verify.{verify_of};
 ghost use Rattle.loader.specs.Load.{load_of, memory_after_load, loaded_memory};
 
 use super::copy::{clear_window, copy_code};
 use image::Layout;
-use refusals::{Refusal, refusal_of};
-use units::{ByteAddress, MEMORY_BYTES};
-use verifier::Verdict;
-
-// What became of a load: the layout of the loaded program, or why it was
-// refused.
-#[derive(Drop)]
-pub enum Loaded {
-    Done(Layout),
-    Refused(Refusal),
-}
+use refusals::{Check, Refusal};
+use units::{ByteAddress, InstructionIndex, MEMORY_BYTES};
 
 // Puts the code of a fit file to address 0 and clears its window.
 fn place(file: &[u8], layout: Layout, memory: &mut [u8])
-    requires file_value { verify_of file.now ≡ Verdict.Fit layout }
+    requires file_value { verify_of file.now ≡ Ok layout }
     requires memory_len { length memory.old ≡ memory_bytes }
     ensures { memory.new ≡ loaded_memory file.now layout memory.old }
 {
     let start = layout.window_start as usize;
     let end = start + layout.window_length as usize;
-    let count = units::instruction_index(ByteAddress(layout.code_bytes));
+    let count = InstructionIndex::from(ByteAddress(layout.code_bytes));
     copy_code(file, memory, count);
     clear_window(memory, start, end);
 }
@@ -35,18 +26,14 @@ fn place(file: &[u8], layout: Layout, memory: &mut [u8])
 // its code goes to address 0, its window is cleared, and no other byte changes. A
 // refusal changes nothing.
 #[tactic(auto, unfolding(crate::specs::Load::load_of, crate::specs::Load::memory_after_load))]
-pub fn load(file: &[u8], memory: &mut [u8]) -> Loaded
+pub fn load(file: &[u8], memory: &mut [u8]) -> Result<Layout, Refusal>
     ensures { (result ≡ load_of file.now memory.old)
         × (memory.new ≡ memory_after_load file.now memory.old) }
 {
     if memory.len() != MEMORY_BYTES {
-        return Loaded::Refused(refusal_of(1));
+        return Err(Refusal::new(Check::MemorySize));
     }
-    match verifier::verify(file) {
-        Verdict::Refused(refusal) => Loaded::Refused(refusal),
-        Verdict::Fit(layout) => {
-            place(file, layout, memory);
-            Loaded::Done(layout)
-        }
-    }
+    let layout = verifier::verify(file)?;
+    place(file, layout, memory);
+    Ok(layout)
 }

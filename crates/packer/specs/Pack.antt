@@ -1,16 +1,14 @@
 -- The image of a code and its window ("Image blocks", the table), and the packer's checks 15, 8 and 16
 -- ("The questions").
 use Rattle.std.specs.Prelude.{ℕ, ◌+◌, ◌-◌, ◌*◌, ◌/◌, ◌%◌, min, Bool, cond, ◌&&◌, List, [], ◌∷◌, length, ◌==◌, nat_le}
-use Rattle.std.specs.Prelude.{nat_lt, slice_index}
+use Rattle.std.specs.Prelude.{nat_lt, slice_index, Result, Ok, Err, ⊤}
 use Rattle.units.specs.Bytes.{byte_of}
 use Rattle.units.specs.Address.{wrap}
 use Rattle.sums.specs.Sum.{sum_below}
 use Rattle.image.specs.Format.{mark, block_bytes, block_halfwords, block_code, header_halfwords, most_code, tabulate}
 use Rattle.image.specs.Check.{Asked, whole, first_no, check8}
-use Rattle.image.specs.declared.answer.Answer.{Answer}
-use Rattle.image.specs.declared.answer.Answer.TheVariants.{Pass, Refused}
-use Rattle.packer.specs.declared.packer.Packed.{Packed}
-use Rattle.packer.specs.declared.packer.Packed.TheVariants as packed
+use Rattle.refusals.specs.declared.check.Check.TheVariants as check
+use Rattle.refusals.specs.declared.refusal.Refusal.{Refusal}
 
 -- the blocks that n code halfwords need, and how many of them stand in block k
 abbrev pub blocks_needed : ℕ → ℕ
@@ -55,23 +53,23 @@ check16 code size = size == block_bytes * blocks_needed (length code)
 -- what the packer puts, in order, of code, w, l and an output of `size` bytes
 abbrev pub pack_checks : List ℕ → ℕ → ℕ → ℕ → List Asked
 pack_checks code w l size =
-    whole 15 (check15 code)
-    ∷ whole 8 (check8 (2 * length code) w l)
-    ∷ whole 16 (check16 code size)
+    whole check.CodeLength (check15 code)
+    ∷ whole check.Window (check8 (2 * length code) w l)
+    ∷ whole check.OutputLength (check16 code size)
     ∷ []
 
-abbrev pub packed_as : Answer → Packed
-packed_as Pass = packed.Done
-packed_as (Refused r) = packed.Refused r
+abbrev pub packed_as : Result ⊤ Refusal → Result ⊤ Refusal
+packed_as (Ok tt) = Ok tt
+packed_as (Err r) = Err r
 
 -- the packer's answer
-unfoldable pub pack_of : List ℕ → ℕ → ℕ → ℕ → Packed
+unfoldable pub pack_of : List ℕ → ℕ → ℕ → ℕ → Result ⊤ Refusal
 pack_of code w l size = packed_as (first_no (pack_checks code w l size))
 
 -- the output afterwards: the image, or what it was before if the packer refuses
-abbrev pub output_as : Packed → List ℕ → List ℕ → List ℕ
-output_as packed.Done image out = image
-output_as (packed.Refused r) image out = out
+abbrev pub output_as : Result ⊤ Refusal → List ℕ → List ℕ → List ℕ
+output_as (Ok tt) image out = image
+output_as (Err r) image out = out
 
 unfoldable pub output_of : List ℕ → ℕ → ℕ → List ℕ → List ℕ
 output_of code w l out = output_as (pack_of code w l (length out)) (image_of code w l) out

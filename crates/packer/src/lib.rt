@@ -4,4 +4,4 @@
 mod packer;
 mod writer;
 
-pub use packer::{Packed, pack};
+pub use packer::pack;

@@ -4,14 +4,14 @@ ghost use Rattle.sums.specs.Sum.{added_to};
 ghost use Rattle.image.specs.Check.{check_of};
 ghost use Rattle.reader.specs.Reader.{given_of};
 ghost use Rattle.packer.specs.Pack.{pack_of, output_of};
-ghost use Rattle.answers.specs.Answers.{checked_word, given_word, packed_number};
+ghost use Rattle.answers.specs.Answers.{answer_word, given_word, packed_number};
 
 // Puts checks 2 to 8 to a file.
 #[unsafe(no_mangle)]
 pub extern "C" fn paw_check(file: &[u8]) -> u64
-    ensures { result ≡ checked_word (check_of file.now) }
+    ensures { result ≡ answer_word (check_of file.now) }
 {
-    answers::checked_word(image::check(file))
+    answers::answer_word(image::check(file))
 }
 
 // The sum so far of a block's halfwords, with one halfword more.

@@ -1,11 +1,10 @@
 -- What the C face answers for a text that is assembled or written ("Change 4"), as one number: the refusal's number
 -- in the lower 16 bits, 0 if there is none; above it the length written, or the line, or the byte address.
-use Rattle.std.specs.Prelude.{ℕ, ◌+◌, ◌*◌, min}
+use Rattle.std.specs.Prelude.{ℕ, ◌+◌, ◌*◌, min, Result, Ok, Err}
 use Rattle.refusals.specs.Refusal.{refusal_word}
 use Rattle.assembler.specs.declared.assembler.Assembled.{Assembled}
 use Rattle.assembler.specs.declared.assembler.Assembled.TheVariants as assembled
-use Rattle.lister.specs.declared.lister.Listed.{Listed}
-use Rattle.lister.specs.declared.lister.Listed.TheVariants as listed
+use Rattle.refusals.specs.declared.refusal.Refusal.{Refusal}
 
 -- the upper 48 bits; a number that they don't hold is told as the largest
 abbrev pub most : ℕ
@@ -18,6 +17,6 @@ abbrev pub assembled_word : Assembled → ℕ
 assembled_word (assembled.Done n) = above n
 assembled_word (assembled.Refused number line) = number + above line
 
-abbrev pub listed_word : Listed → ℕ
-listed_word (listed.Done n) = above n
-listed_word (listed.Refused r) = refusal_word r
+abbrev pub listed_word : Result ℕ Refusal → ℕ
+listed_word (Ok n) = above n
+listed_word (Err r) = refusal_word r

@@ -3,8 +3,6 @@ ghost use Rattle.std.specs.Prelude.{◌≡◌};
 ghost use Rattle.paw_tools.specs.Answers.{above, assembled_word, listed_word};
 
 use assembler::Assembled;
-use lister::Listed;
-use refusals::refusal_word;
 
 // The largest number that 48 bits hold.
 const MOST: u64 = 0xffffffffffff;
@@ -32,11 +30,11 @@ pub(crate) fn assembled_word(answer: Assembled) -> u64
 }
 
 // The bytes written, or the refusal's number and address.
-pub(crate) fn listed_word(answer: Listed) -> u64
+pub(crate) fn listed_word(answer: Result<usize, Refusal>) -> u64
     ensures { result ≡ listed_word answer }
 {
     match answer {
-        Listed::Done(n) => put_above(n as u64),
-        Listed::Refused(r) => refusal_word(r),
+        Ok(n) => put_above(n as u64),
+        Err(r) => r.word(),
     }
 }

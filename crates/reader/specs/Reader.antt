@@ -1,14 +1,14 @@
 -- The reader ("Image blocks", "The questions"): what it answers to each call, and the bytes that it gives out.
-use Rattle.std.specs.Prelude.{Bool, cond, List, [], ℕ, ◌+◌, ◌*◌, ltb, take, drop}
+use Rattle.std.specs.Prelude.{Bool, cond, List, [], ℕ, ◌+◌, ◌*◌, ltb, take, drop, Result, Ok, Err}
 use Rattle.std.specs.Borrow.{Bor}
 use Rattle.image.specs.Format.{block_bytes}
 use Rattle.image.specs.Block.{blocks_in}
 use Rattle.image.specs.Check.{check_of}
-use Rattle.image.specs.declared.checker.Checked.{Checked}
-use Rattle.image.specs.declared.checker.Checked.TheVariants as checked
 use Rattle.reader.specs.declared.reader.BlockReader.{BlockReader}
 use Rattle.reader.specs.declared.reader.Given.{Given}
 use Rattle.reader.specs.declared.reader.Given.TheVariants.{Refused, Block, NoneLeft}
+use Rattle.image.specs.declared.checker.Layout.{Layout}
+use Rattle.refusals.specs.declared.refusal.Refusal.{Refusal}
 
 -- there is a block `next`
 abbrev pub is_left : List ℕ → ℕ → Bool
@@ -19,9 +19,9 @@ unfoldable pub block_at : List ℕ → ℕ → Given
 block_at file next = cond (is_left file next) (Block (block_bytes * next)) NoneLeft
 
 -- a refused file answers with its refusal, whichever block comes next
-abbrev pub given_as : List ℕ → ℕ → Checked → Given
-given_as file next (checked.Valid layout) = block_at file next
-given_as file next (checked.Refused r) = Refused r
+abbrev pub given_as : List ℕ → ℕ → Result Layout Refusal → Given
+given_as file next (Ok layout) = block_at file next
+given_as file next (Err r) = Refused r
 
 -- what the reader of a file answers to its call n, from 0: checks 2 to 8 are put to the whole file first
 unfoldable pub given_of : List ℕ → ℕ → Given

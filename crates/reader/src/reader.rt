@@ -6,7 +6,7 @@ ghost use Rattle.image.specs.Check.{check_of};
 ghost use Rattle.reader.specs.Reader.{block_at, given_as, given_of, bytes_of, after_of, open_of, answer_of, next_of};
 ghost use Rattle.reader.specs.Reader.{after_next};
 
-use image::{BLOCK_BYTES, Checked, check};
+use image::{BLOCK_BYTES, check};
 use refusals::Refusal;
 
 // What a reader answers to a call: why its file is refused, a block, by the byte
@@ -24,7 +24,7 @@ pub enum Given {
 pub struct BlockReader<'a> {
     file: &'a [u8],
     next: usize,
-    checked: Checked,
+    checked: Result<Layout, Refusal>,
 }
 
 // The answer to a call at block `next` of an accepted file.
@@ -40,17 +40,17 @@ fn block_at(file: &[u8], next: usize) -> Given
 
 // The answer to a call at block `next` of a file of which the checks said
 // `checked`. Refused, a block and none left are told apart here and nowhere else.
-fn given_as(file: &[u8], next: usize, checked: Checked) -> Given
+fn given_as(file: &[u8], next: usize, checked: Result<Layout, Refusal>) -> Given
     ensures { result ≡ given_as file.now next checked }
 {
     match checked {
-        Checked::Valid(_) => block_at(file, next),
-        Checked::Refused(refusal) => Given::Refused(refusal),
+        Ok(_) => block_at(file, next),
+        Err(refusal) => Given::Refused(refusal),
     }
 }
 
 // The bytes that the call gives out: the block, or none.
-fn part_at(file: &[u8], next: usize, checked: Checked) -> &[u8]
+fn part_at(file: &[u8], next: usize, checked: Result<Layout, Refusal>) -> &[u8]
     ensures { result.now ≡ bytes_of file.now (given_as file.now next checked) }
 {
     match given_as(file, next, checked) {
@@ -64,7 +64,7 @@ fn part_at(file: &[u8], next: usize, checked: Checked) -> &[u8]
 }
 
 // The number of the block that comes next after the call.
-fn number_after(file: &[u8], next: usize, checked: Checked) -> usize
+fn number_after(file: &[u8], next: usize, checked: Result<Layout, Refusal>) -> usize
     ensures { result ≡ after_of next (given_as file.now next checked) }
 {
     match given_as(file, next, checked) {
@@ -109,7 +109,7 @@ pub fn next<'s, 'a>(r: &'s mut BlockReader<'a>) -> &'a [u8]
 // What the reader of a file answers to its call number `n`, from 0, for a caller
 // with no reader who knows what the checks said of the file. A block has its 512
 // bytes from where it starts.
-pub fn given_checked(file: &[u8], n: usize, checked: Checked) -> Given
+pub fn given_checked(file: &[u8], n: usize, checked: Result<Layout, Refusal>) -> Given
     requires { checked ≡ check_of file.now }
     ensures { result ≡ given_of file.now n }
 {

@@ -1,7 +1,9 @@
-// Refusals: the number of the first check that failed, and its place. Every
-// part that puts checks answers with one.
+// Refusals: the first check that failed, and its place. Every part that puts
+// checks answers with one.
 #![tactic(auto)]
 
+mod check;
 mod refusal;
 
-pub use refusal::{Place, Refusal, place_number, refusal_of, refusal_word};
+pub use check::Check;
+pub use refusal::{Place, Refusal};

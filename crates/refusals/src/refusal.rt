@@ -1,49 +1,78 @@
 // Refusals: which check failed, and where.
 ghost use Rattle.std.specs.Prelude.{◌≡◌};
-ghost use Rattle.refusals.specs.Refusal.{refusal, place_number, refusal_word};
 
+use super::check::Check;
 use units::ByteAddress;
 
 // What a refusal points at: nothing, a block of an image, or an instruction.
-#[derive(Clone, Copy)]
+#[derive(Clone, Copy, PartialEq, Eq, Debug)]
 pub enum Place {
     Nowhere,
     Block(u8),
     Address(ByteAddress),
 }
 
-// The number of the first check that failed, and where.
-#[derive(Clone, Copy)]
+// A place in one number.
+impl From<Place> for u16 {
+    ghost use Rattle.refusals.specs.Refusal.{place_number};
+
+    ghost from_gives = { λ p n. n ≡ place_number p };
+
+    fn from(p: Place) -> u16 {
+        match p {
+            Place::Nowhere => 0,
+            Place::Block(b) => b as u16,
+            Place::Address(a) => a.0,
+        }
+    }
+}
+
+// The first check that failed, and where.
+#[derive(Clone, Copy, PartialEq, Eq, Debug)]
 pub struct Refusal {
-    pub number: u8,
+    pub check: Check,
     pub place: Place,
 }
 
-// The refusal of a check that has no place.
-pub fn refusal_of(number: u8) -> Refusal
-    ensures { result ≡ refusal number }
-{
-    Refusal {
-        number,
-        place: Place::Nowhere,
-    }
-}
+impl Refusal {
+    ghost use Rattle.refusals.specs.Refusal.{refusal, refusal_in_block, refusal_at, refusal_word};
 
-// A place in one number.
-pub fn place_number(p: Place) -> u16
-    ensures { result ≡ place_number p }
-{
-    match p {
-        Place::Nowhere => 0,
-        Place::Block(b) => b as u16,
-        Place::Address(a) => a.0,
+    // The refusal of a check that has no place.
+    pub fn new(check: Check) -> Refusal
+        ensures { result ≡ refusal check }
+    {
+        Refusal {
+            check,
+            place: Place::Nowhere,
+        }
     }
-}
 
-// A refusal in one number, its place above its own.
-pub fn refusal_word(r: Refusal) -> u64
-    ensures { result ≡ refusal_word r }
-{
-    let place = r.place;
-    (r.number as u64) + (place_number(place) as u64) * 0x10000
+    // The refusal of a check of block `k`.
+    pub fn in_block(check: Check, k: u8) -> Refusal
+        ensures { result ≡ refusal_in_block check k }
+    {
+        Refusal {
+            check,
+            place: Place::Block(k),
+        }
+    }
+
+    // The refusal of a check of the instruction at an address.
+    pub fn at(check: Check, a: ByteAddress) -> Refusal
+        ensures { result ≡ refusal_at check a }
+    {
+        Refusal {
+            check,
+            place: Place::Address(a),
+        }
+    }
+
+    // A refusal in one number, its place above its own.
+    pub fn word(self) -> u64
+        ensures { result ≡ refusal_word self }
+    {
+        let number = u8::from(self.check);
+        let place = u16::from(self.place);
+        (number as u64) + (place as u64) * 0x10000
+    }
 }

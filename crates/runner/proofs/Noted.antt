@@ -6,6 +6,7 @@ use Prim.Native.Nat.{ℕ, zero, suc, ◌+◌}
 use lib.Dec.{eqb}
 use lib.ListN.{length}
 use Rattle.units.specs.Address.{memory_bytes}
+use Rattle.refusals.specs.declared.check.Check.TheVariants as check
 use Rattle.refusals.specs.Refusal.{refusal}
 use Rattle.cpu.specs.declared.machine.Machine.{Machine}
 use Rattle.cpu.specs.declared.outcome.Outcome.{Outcome}
@@ -62,7 +63,7 @@ unfolding run_of
 run_noted n budget m memory = go (eqb (length memory) memory_bytes)
   where
     by_size : Bool → Machine → RunResult
-    by_size t m = cond t (run_from budget 0 (state m memory)) (run_result m memory (ended.Refused (refusal 1)) 0)
+    by_size t m = cond t (run_from budget 0 (state m memory)) (run_result m memory (ended.Refused (refusal check.MemorySize)) 0)
 
     go : (t : Bool) → by_size t (with_note n m) ≡ renoted n (by_size t m)
     go true = from_noted n budget 0 (state m memory)

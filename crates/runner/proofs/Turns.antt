@@ -7,6 +7,7 @@ use lib.ListN.{get_or, length, set}
 use lib.Seq.{set-get_or}
 use borrow.Author.Tests.{eq-eqb, ne_eqb}
 use Rattle.units.specs.Address.{memory_bytes}
+use Rattle.refusals.specs.declared.check.Check.TheVariants as check
 use Rattle.refusals.specs.Refusal.{refusal}
 use Rattle.refusals.specs.declared.refusal.Refusal.{Refusal}
 use Rattle.alu.specs.declared.control.Control.{Control}
@@ -28,7 +29,7 @@ use Rattle.cpu.proofs.Endings.{halted_not_completed}
 use Rattle.cpu.proofs.Notes.{bare_step}
 
 pub run_refused : (budget : ℕ) (regs : List ℕ) (s : Status) (memory : List ℕ) (r : Refusal)
-    → (length memory ≡ memory_bytes → ⊥) → r ≡ refusal 1
+    → (length memory ≡ memory_bytes → ⊥) → r ≡ refusal check.MemorySize
     → run_result (lent regs s) memory (RunRefused r) 0 ≡ unnoted_run (run_of budget (lent regs s) memory)
 unfolding run_of
 run_refused budget regs s memory r wrong is = simp (ne_eqb (length memory) memory_bytes wrong, is)

@@ -1,6 +1,7 @@
 -- A run: steps until a budget is spent, or until one doesn't complete.
 use Rattle.std.specs.Prelude.{cond, List, ℕ, zero, suc, ◌+◌, eqb, length}
 use Rattle.units.specs.Address.{memory_bytes}
+use Rattle.refusals.specs.declared.check.Check.TheVariants as check
 use Rattle.refusals.specs.Refusal.{refusal}
 use Rattle.cpu.specs.declared.machine.Machine.{Machine}
 use Rattle.cpu.specs.declared.outcome.Outcome.{Outcome}
@@ -52,4 +53,4 @@ unfoldable pub run_of : ℕ → Machine → List ℕ → RunResult
 run_of budget m memory =
     cond (eqb (length memory) memory_bytes)
     (run_from budget 0 (state m memory))
-    (run_result m memory (ended.Refused (refusal 1)) 0)
+    (run_result m memory (ended.Refused (refusal check.MemorySize)) 0)

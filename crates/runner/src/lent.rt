@@ -13,7 +13,7 @@ ghost use Rattle.runner.specs.Lent.{lent, unnoted_run};
 use super::runs::RunOutcome;
 use alu::{Control, Status, control_of, status_in};
 use cpu::{Outcome, fetch_and_execute};
-use refusals::refusal_of;
+use refusals::{Check, Refusal};
 use units::MEMORY_BYTES;
 
 // The flags after a run, how it ended, and the steps completed.
@@ -69,7 +69,7 @@ pub fn run_lent(
     if memory.len() != MEMORY_BYTES {
         return RanLent {
             status: s,
-            outcome: RunOutcome::Refused(refusal_of(1)),
+            outcome: RunOutcome::Refused(Refusal::new(Check::MemorySize)),
             count: 0,
         };
     }

@@ -9,7 +9,6 @@ use lib.ListN.{length, get_or}
 use Rattle.units.specs.Address.{memory_bytes}
 use Rattle.units.proofs.Halves.{rejoined}
 use Rattle.units.specs.Bytes.{byte_at, byte_of}
-use Rattle.isa.specs.declared.decoder.Decoded.TheVariants.{Defined}
 use Rattle.isa.specs.declared.instruction.Instruction.TheVariants.{Halt}
 use Rattle.image.specs.Code.{code_of}
 use Rattle.image.specs.declared.checker.Layout.{Layout}
@@ -37,6 +36,7 @@ use Rattle.cpu_laws.proofs.Course.{run_course, run_keeps}
 use Rattle.safety.proofs.Loads.{was_fit, after_load, loaded_holds}
 use Rattle.safety.proofs.Accesses.{quiet_safe}
 use Rattle.safety.proofs.Twins.{Twin, same_last, same_runs}
+use Rattle.std.specs.Prelude.{Some}
 
 -- byte by byte is halfword by halfword
 holds_halfwords : (file : List ℕ) (layout : Layout) (memory : List ℕ) → layout.code_bytes ≡ 2 * length (code_of file)
@@ -59,7 +59,7 @@ run_is budget m memory h = simp (eq-eqb _ _ h)
 
 -- what a run leaves at HALT stands on it and has its note
 abbrev stands : State → Type 0
-stands t = fetched t.machine t.memory ≡ Defined (Halt t.machine.note)
+stands t = fetched t.machine t.memory ≡ Some (Halt t.machine.note)
 
 module _ (file : List ℕ) (layout : Layout) (fit : FitCode (code_of file) layout) where
   -- ---- one memory that holds the code
@@ -92,7 +92,7 @@ module _ (file : List ℕ) (layout : Layout) (fit : FitCode (code_of file) layou
       traffic_here = safe_traffic (code_of file) layout memory fit there s inv
 
       -- a step from it
-      goes : ((outcome_at s ≡ Halted) × (fetched s.machine s.memory ≡ Defined (Halt (next_state s).machine.note)))
+      goes : ((outcome_at s ≡ Halted) × (fetched s.machine s.memory ≡ Some (Halt (next_state s).machine.note)))
           ⊎ ((outcome_at s ≡ Completed) × Fine (next_state s))
       goes = next (code_of file) layout memory fit there s inv
 
@@ -120,7 +120,7 @@ module _ (file : List ℕ) (layout : Layout) (fit : FitCode (code_of file) layou
           ⊎_elim
           (λ x. (
             subst (λ (a : Outcome). EndsAs a o) x.0 e,
-            x.1 ∙ ap (λ (t : State). Defined (Halt t.machine.note)) (note_set s x.0),
+            x.1 ∙ ap (λ (t : State). Some (Halt t.machine.note)) (note_set s x.0),
           ))
           (λ x. absurd (subst (λ (a : Outcome). EndsAs a o) x.0 e))
           goes

@@ -9,11 +9,11 @@ use Rattle.image.specs.Code.{code_of}
 use Rattle.image.specs.declared.checker.Layout.{Layout}
 use Rattle.targets.specs.Targets.{goes_to, targeted}
 use Rattle.verifier.specs.Verify.{verify_of}
-use Rattle.verifier.specs.declared.verifier.Verdict.TheVariants.{Fit}
 use Rattle.verifier_laws.proofs.Targets.{goes_targeted}
 use Rattle.verifier.proofs.Fit.{fit_checked}
 use Rattle.verifier_laws.proofs.Verdict.{fit_passes}
 use Rattle.verifier_laws.specs.Passes.{Passes}
+use Rattle.std.specs.Prelude.{Ok}
 
 pub record FitCode (code : List ℕ) (layout : Layout) : Type 0 where
   pub size : layout.code_bytes ≡ 2 * length code
@@ -24,7 +24,7 @@ pub record FitCode (code : List ℕ) (layout : Layout) : Type 0 where
   pub passed : (i : ℕ) → i < length code → Passes code layout i
   pub hits : (i j : ℕ) → i < length code → goes_to code i j ≡ true → targeted code j ≡ true
 
-pub fit_code : (file : List ℕ) (layout : Layout) → verify_of file ≡ Fit layout → FitCode (code_of file) layout
+pub fit_code : (file : List ℕ) (layout : Layout) → verify_of file ≡ Ok layout → FitCode (code_of file) layout
 fit_code file layout fit =
     let valid = fit_checked file layout fit in
     let window = valid_window file layout valid in

@@ -12,8 +12,6 @@ use Rattle.units.specs.Address.{wrap}
 use Rattle.units.specs.declared.address.ByteAddress.{ByteAddress}
 use Rattle.units.specs.Bytes.{byte_at, halfword_at}
 use Rattle.isa.specs.Decode.{decode_of}
-use Rattle.isa.specs.declared.decoder.Decoded.{Decoded}
-use Rattle.isa.specs.declared.decoder.Decoded.TheVariants.{Defined}
 use Rattle.isa.specs.declared.instruction.Instruction.{Instruction}
 use Rattle.isa.specs.declared.instruction.Instruction.TheVariants.{Halt}
 use Rattle.image.specs.declared.checker.Layout.{Layout}
@@ -43,6 +41,7 @@ use Rattle.cpu_laws.proofs.Touched.{step_keeps}
 use Rattle.verifier.proofs.Walk.{length_entering, length_values}
 use Rattle.verifier_laws.specs.Passes.{Passes}
 use Rattle.safety.proofs.Fitness.{FitCode}
+use Rattle.std.specs.Prelude.{Option, Some}
 
 -- ---- the invariant, of a code and layout, and of the memory at the start
 
@@ -102,12 +101,12 @@ module _ (code : List ℕ) (layout : Layout) (start : List ℕ)
         let high = code_kept (2 * i + 1) (omega (arith, fit.size, inv.inside)) in
         rw inv.here (omega (arith, low, high, there i inv.inside))
 
-    pub fetched_is : fetched m s.memory ≡ Defined ins
+    pub fetched_is : fetched m s.memory ≡ Some ins
     unfolding fetched decoded_at
     fetched_is = ap decode_of fetch_is ∙ passed.passes9
 
     pub step_is : step_of m s.memory ≡ after
-    step_is = step_decoded m s.memory (Defined ins) inv.sized.bytes.count even fetched_is
+    step_is = step_decoded m s.memory (Some ins) inv.sized.bytes.count even fetched_is
 
     narrow : Narrow ins
     unfolding fetched
@@ -133,7 +132,7 @@ module _ (code : List ℕ) (layout : Layout) (start : List ℕ)
     unfolding decoded_at
     small_halts e =
         let note = get_or code i 0 in
-        let d : Defined (Halt note) ≡ Defined ins = sym (halt_notes.all_below note e) ∙ passed.passes9 in
+        let d : Some (Halt note) ≡ Some ins = sym (halt_notes.all_below note e) ∙ passed.passes9 in
         (note, cc)
 
     -- the last instruction is HALT
@@ -171,7 +170,7 @@ module _ (code : List ℕ) (layout : Layout) (start : List ℕ)
     entered : entering code (suc i) ≡ transfer_of (here m) ins (values_at code i)
     unfolding entering
     entered =
-        ap (λ (d : Decoded). after_of (address_of i) d (values_at code i)) passed.passes9
+        ap (λ (d : Option Instruction). after_of (address_of i) d (values_at code i)) passed.passes9
         ∙ ap (λ (a : ByteAddress). transfer_of a ins (values_at code i)) here_is
 
     -- by falling into the next instruction
@@ -204,7 +203,7 @@ module _ (code : List ℕ) (layout : Layout) (start : List ℕ)
     completes c = ⊎_elim (fell (running c)) branched c.moved
 
     -- a step of the run halts, where HALT is, or completes and leads to a state of the same kind
-    pub next : ((outcome_at s ≡ Halted) × (fetched m s.memory ≡ Defined (Halt (next_state s).machine.note)))
+    pub next : ((outcome_at s ≡ Halted) × (fetched m s.memory ≡ Some (Halt (next_state s).machine.note)))
         ⊎ ((outcome_at s ≡ Completed) × Inv code layout start (next_state s))
     unfolding execute_of
     next =

@@ -9,6 +9,7 @@ use borrow.Author.Tests.{lt-ltb, eqb-true}
 use lib.Dec.{eqb, ltb}
 use lib.ListN.{length, get_or, get_or-eq_default}
 use Rattle.units.specs.Address.{memory_bytes}
+use Rattle.refusals.specs.declared.check.Check.TheVariants as check
 use Rattle.refusals.specs.Refusal.{refusal}
 use Rattle.units.specs.Bytes.{byte_at, byte_of}
 use Rattle.units.proofs.Cases.{clash}
@@ -17,36 +18,34 @@ use Rattle.image.proofs.Valid.{code_halfword_is, code_fits}
 use Rattle.image.specs.Code.{code_of}
 use Rattle.image.specs.declared.checker.Layout.{Layout}
 use Rattle.verifier.specs.Verify.{verify_of}
-use Rattle.verifier.specs.declared.verifier.Verdict.{Verdict}
-use Rattle.verifier.specs.declared.verifier.Verdict.TheVariants as verdict
 use Rattle.loader.specs.Load.{code_byte, in_window, loaded_byte_of, loaded_memory, loaded_as, load_of, memory_as}
 use Rattle.loader.specs.Load.{memory_after_load}
-use Rattle.loader.specs.declared.loader.Loaded.{Loaded}
-use Rattle.loader.specs.declared.loader.Loaded.TheVariants.{Done, Refused}
 use Rattle.safety.specs.Safety.{HoldsCode}
+use Rattle.std.specs.Prelude.{Result, Ok, Err}
+use Rattle.refusals.specs.declared.refusal.Refusal.{Refusal}
 
 -- a load that is done had a memory of the right size and a fit file
 pub record WasFit (file memory : List ℕ) (layout : Layout) : Type 0 where
   pub size : length memory ≡ memory_bytes
-  pub fit : verify_of file ≡ verdict.Fit layout
+  pub fit : verify_of file ≡ Ok layout
 
-fit_layout : (v : Verdict) (layout : Layout) → loaded_as v ≡ Done layout → v ≡ verdict.Fit layout
-fit_layout (verdict.Fit x) layout e = let q : x ≡ layout = cc in ap verdict.Fit q
-fit_layout (verdict.Refused r) layout e = clash (cc)
+fit_layout : (v : Result Layout Refusal) (layout : Layout) → loaded_as v ≡ Ok layout → v ≡ Ok layout
+fit_layout (Ok x) layout e = let q : x ≡ layout = cc in ap Ok q
+fit_layout (Err r) layout e = clash (cc)
 
-pub was_fit : (file memory : List ℕ) (layout : Layout) → load_of file memory ≡ Done layout → WasFit file memory layout
+pub was_fit : (file memory : List ℕ) (layout : Layout) → load_of file memory ≡ Ok layout → WasFit file memory layout
 unfolding load_of
 was_fit file memory layout e = go (eqb (length memory) memory_bytes) refl e
   where
     go : (t : Bool) → eqb (length memory) memory_bytes ≡ t
-        → cond t (loaded_as (verify_of file)) (Refused (refusal 1)) ≡ Done layout → WasFit file memory layout
+        → cond t (loaded_as (verify_of file)) (Err (refusal check.MemorySize)) ≡ Ok layout → WasFit file memory layout
     go true q d = record { size = eqb-true _ _ q; fit = fit_layout (verify_of file) layout d }
     go false q d = clash (cc)
 
-pub after_load : (file memory : List ℕ) (layout : Layout) → load_of file memory ≡ Done layout
+pub after_load : (file memory : List ℕ) (layout : Layout) → load_of file memory ≡ Ok layout
     → memory_after_load file memory ≡ loaded_memory file layout memory
 unfolding memory_after_load
-after_load file memory layout e = ap (λ (a : Loaded). memory_as a file memory) e
+after_load file memory layout e = ap (λ (a : Result Layout Refusal). memory_as a file memory) e
 
 -- the bytes of the code are bytes
 half_byte : (h i : ℕ) → h < 65536 → byte_of h i < 256

@@ -22,7 +22,6 @@ use Rattle.domain_laws.specs.Holds.{Holds}
 use Rattle.domain_laws.proofs.Sound.{unknown_sound, exactly_sound, byte_sound, neg_sound, asr_sound, add_sound}
 use Rattle.domain_laws.proofs.Sound.{and_sound, eor_sound}
 use Rattle.targets.specs.Jumps.{jump_of}
-use Rattle.targets.specs.declared.branch.Target.TheVariants.{To}
 use Rattle.isa.specs.Access.{access_of}
 use Rattle.checks.specs.Questions.{check12}
 use Rattle.checks.specs.State.{State, value, transfer_of}
@@ -40,6 +39,7 @@ use Rattle.cpu.specs.Traffic.{data_address}
 use Rattle.cpu_laws.proofs.Sizes.{shift_small, halfword_small}
 use Rattle.safety.proofs.Registers.{HoldsBelow, Moved, jumped, on, wrote}
 use Rattle.isa_laws.proofs.Narrow.{Narrow}
+use Rattle.std.specs.Prelude.{Some}
 
 -- ---- an arithmetic shift gives no more than what it shifts where that is not negative
 
@@ -69,7 +69,7 @@ MovedTo s i m r to = Moved (transfer_of (here m) i s) r.state.machine.regs to
 -- so does a branch, to where it jumps
 pub record Branched (s : State) (i : Instruction) (m : Machine) (r : StepResult) : Type 0 where
   pub target : ByteAddress
-  pub jumps : jump_of (here m) i ≡ To target
+  pub jumps : jump_of (here m) i ≡ Some target
   pub even : pc m % 2 ≡ 0 → target.0 % 2 ≡ 0
   pub moved : MovedTo s i m r target.0
 

@@ -4,7 +4,6 @@ use mathlib.Core.Logic.{⊎_elim}
 use mathlib.Core.Path.{◌≡◌, refl, sym, ap, ap₂, ◌∙◌}
 use Prim.Native.Nat.{ℕ, zero, suc, ◌+◌, ◌<◌}
 use native.Mathlib.Omega.{arith}
-use Rattle.isa.specs.declared.decoder.Decoded.TheVariants.{Defined}
 use Rattle.isa.specs.declared.instruction.Instruction.{Instruction}
 use Rattle.image.specs.declared.checker.Layout.{Layout}
 use Rattle.targets.specs.Targets.{decoded_at}
@@ -20,6 +19,7 @@ use Rattle.safety.proofs.Invariant.{Inv, HoldsHalfwords, fetched_is, step_is, sa
 use Rattle.safety.proofs.Accesses.{data_in_window}
 use Rattle.cpu_laws.proofs.Touched.{execute_alike}
 use Rattle.cpu.proofs.Endings.{halted_not_completed}
+use Rattle.std.specs.Prelude.{Some}
 
 -- two states with the same machine and window
 pub record Twin (layout : Layout) (s t : State) : Type 0 where
@@ -38,7 +38,7 @@ module _ (code : List ℕ) (layout : Layout) (fit : FitCode code layout)
       let i : p.index ≡ q.index = omega (arith, p.here, q.here, ap pc e) in
       let here = (fit.passed p.index p.inside).passes9 in
       let there = (fit.passed q.index q.inside).passes9 in
-      let d : Defined (at p) ≡ Defined (at q) = sym here ∙ ap (decoded_at code) i ∙ there in
+      let d : Some (at p) ≡ Some (at q) = sym here ∙ ap (decoded_at code) i ∙ there in
       cc
 
   -- both are on their way, and alike
@@ -68,7 +68,7 @@ module _ (code : List ℕ) (layout : Layout) (fit : FitCode code layout)
     same_traffic =
         let here = fetched_is code layout start fit there s p in
         let there = fetched_is code layout other fit there' t q in
-        let fetched = here ∙ ap Defined (same_instruction s t p q w.machine) ∙ sym there in
+        let fetched = here ∙ ap Some (same_instruction s t p q w.machine) ∙ sym there in
         ap₂ when_completed step_twin.outcome (ap₂ decoded_traffic fetched w.machine)
 
   -- and so after any number of steps

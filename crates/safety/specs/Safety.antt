@@ -1,13 +1,11 @@
 -- Demand 3: what holds of every run of a program that the verifier calls fit ("Words of demand 3").
-use Rattle.std.specs.Prelude.{List, ◌⊎◌, ◌≡◌, ℕ, ◌+◌, ◌%◌, ◌≤◌, ◌<◌, length}
+use Rattle.std.specs.Prelude.{List, ◌⊎◌, ◌≡◌, ℕ, ◌+◌, ◌%◌, ◌≤◌, ◌<◌, length, Some, Ok}
 use Rattle.units.specs.Address.{memory_bytes}
 use Rattle.units.specs.Bytes.{byte_at}
-use Rattle.isa.specs.declared.decoder.Decoded.TheVariants.{Defined}
 use Rattle.isa.specs.declared.instruction.Instruction.{Instruction}
 use Rattle.isa.specs.declared.instruction.Instruction.TheVariants.{Halt}
 use Rattle.image.specs.declared.checker.Layout.{Layout}
 use Rattle.verifier.specs.Verify.{verify_of}
-use Rattle.verifier.specs.declared.verifier.Verdict.TheVariants.{Fit}
 use Rattle.cpu.specs.declared.machine.Machine.{Machine}
 use Rattle.cpu.specs.declared.outcome.Outcome.TheVariants as step
 use Rattle.runner.specs.declared.runs.RunOutcome.TheVariants as run
@@ -19,7 +17,6 @@ use Rattle.runner.specs.Run.{RunResult, state, outcome_at, state_after, run_of}
 use Rattle.runner.specs.Traffic.{traffic_at, run_traffic}
 use Rattle.cpu_laws.specs.Course.{final_state}
 use Rattle.loader.specs.Load.{code_byte, load_of, memory_after_load}
-use Rattle.loader.specs.declared.loader.Loaded.TheVariants.{Done}
 
 -- a start: any registers of 16 bits, any flags and any note, the PC at 0
 pub record Start (m : Machine) : Type 0 where
@@ -49,7 +46,7 @@ pub record SafeState (layout : Layout) (memory : List ℕ) (s : State) : Type 0 
   pub even : pc s.machine % 2 ≡ 0
   pub fetch : pc s.machine + 2 ≤ layout.code_bytes
   pub instruction : Instruction
-  pub defined : fetched s.machine s.memory ≡ Defined instruction
+  pub defined : fetched s.machine s.memory ≡ Some instruction
   pub goes_on : (outcome_at s ≡ step.Completed) ⊎ (outcome_at s ≡ step.Halted)
   pub traffic : SafeTraffic layout (traffic_at s)
   pub size : length s.memory ≡ memory_bytes
@@ -70,7 +67,7 @@ pub record SameResult (layout : Layout) (r q : RunResult) : Type 0 where
 pub record EndsByHalt (budget : ℕ) (r : RunResult) : Type 0 where
   pub outcome : r.outcome ≡ run.Halted
   pub left : r.count < budget
-  pub halt : fetched r.state.machine r.state.memory ≡ Defined (Halt r.state.machine.note)
+  pub halt : fetched r.state.machine r.state.memory ≡ Some (Halt r.state.machine.note)
 
 -- or it ends spent, when as many steps are completed as the budget has
 pub record EndsSpent (budget : ℕ) (r : RunResult) : Type 0 where
@@ -95,7 +92,7 @@ pub record SafeRun (file : List ℕ) (layout : Layout) (m : Machine) (memory : L
 -- demand 3, over every file, memory, start and budget
 abbrev pub Demand3 : Type 0
 Demand3 =
-    (file : List ℕ) (layout : Layout) → verify_of file ≡ Fit layout
+    (file : List ℕ) (layout : Layout) → verify_of file ≡ Ok layout
     → (memory : List ℕ) → HoldsCode file layout memory
     → (m : Machine) → Start m
     → (budget : ℕ) → SafeRun file layout m memory budget
@@ -105,5 +102,5 @@ Demand3 =
 abbrev pub LoadHolds : Type 0
 LoadHolds =
     (file memory : List ℕ) → ((a : ℕ) → byte_at file a < 256) → ((a : ℕ) → byte_at memory a < 256)
-    → (layout : Layout) → load_of file memory ≡ Done layout
-    → (verify_of file ≡ Fit layout) × HoldsCode file layout (memory_after_load file memory)
+    → (layout : Layout) → load_of file memory ≡ Ok layout
+    → (verify_of file ≡ Ok layout) × HoldsCode file layout (memory_after_load file memory)

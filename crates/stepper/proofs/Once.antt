@@ -6,6 +6,7 @@ use mathlib.Core.Path.{◌≡◌, refl, ap, ◌∙◌}
 use lib.Dec.{eqb}
 use lib.ListN.{length}
 use Rattle.units.specs.Address.{memory_bytes}
+use Rattle.refusals.specs.declared.check.Check.TheVariants as check
 use Rattle.refusals.specs.Refusal.{refusal}
 use Rattle.cpu.specs.declared.machine.Machine.{Machine}
 use Rattle.cpu.specs.declared.outcome.Outcome.{Outcome}
@@ -34,7 +35,7 @@ after_one (Stopped number) s = refl
 after_one (Refused r) s = refl
 
 wrong : (m : Machine) (memory : List ℕ) → eqb (length memory) memory_bytes ≡ false
-    → step_result m memory (Refused (refusal 1)) ≡ step_of m memory
+    → step_result m memory (Refused (refusal check.MemorySize)) ≡ step_of m memory
 unfolding step_of
 wrong m memory e = simp e
 

@@ -6,5 +6,5 @@ ghost use Rattle.sums.specs.Sum.{added_to};
 pub fn add_to_sum(sum: u16, h: u16) -> u16
     ensures { result ≡ added_to sum h }
 {
-    std::num::wrapping_add_u16(sum, h)
+    sum.wrapping_add(h)
 }

@@ -16,16 +16,16 @@ use Rattle.units.proofs.Cases.{clash}
 use Rattle.syntax.specs.Syntax.{condition_value, slot_value, place, conditions}
 use Rattle.syntax.specs.Slots.{slot_as, letters, number_among, letters_value}
 use Rattle.syntax.specs.Spots.{Spotted}
-use Rattle.syntax.specs.declared.slots.Slot.TheVariants.{Value, Nothing}
 use Rattle.syntax.proofs.Digits.{word_further, word_begun}
 use Rattle.syntax.proofs.Steps.{spotted_none, spotted_word, byte_inside}
+use Rattle.std.specs.Prelude.{Some, None}
 
 -- what the code's answer says of the definition's
-value_some : (o : Option ℕ) (v : ℕ) → slot_as o ≡ Value v → o ≡ some v
+value_some : (o : Option ℕ) (v : ℕ) → slot_as o ≡ Some v → o ≡ some v
 value_some none v e = clash (cc)
 value_some (some u) v e = ap some (cc)
 
-nothing_none : (o : Option ℕ) → slot_as o ≡ Nothing → o ≡ none
+nothing_none : (o : Option ℕ) → slot_as o ≡ None → o ≡ none
 nothing_none none e = refl
 nothing_none (some u) e = clash (cc)
 
@@ -44,7 +44,7 @@ none_among B k n (t ∷ ts) r =
     let differ = (others (B × (n ≡ letters t → ⊥)) n ts r).1 in
     simp (ne_eqb n (letters t) differ) (none_among (B × (n ≡ letters t → ⊥)) (suc k) n ts r)
 
-pub letters_none : (B : Type 0) (n : ℕ) → NoneOf B n conditions → Nothing ≡ slot_as (letters_value n)
+pub letters_none : (B : Type 0) (n : ℕ) → NoneOf B n conditions → None ≡ slot_as (letters_value n)
 unfolding letters_value
 letters_none B n r = ap slot_as (sym (none_among B 0 n conditions r))
 
@@ -151,7 +151,7 @@ module _ (t : Text) (at x y : ℕ) (h : at ≤ length t) (p : x ≡ get_or t at 
   word_inside i zero r w = absurd (true≢false (sym w))
   word_inside i (suc c) r w = byte_inside t i (suc c) (omega arith) (sym r)
 
-  pub condition_read : (v : ℕ) → Value v ≡ slot_as (letters_value (x * 256 + y)) → Spotted 99 t at v (at + 2)
+  pub condition_read : (v : ℕ) → Some v ≡ slot_as (letters_value (x * 256 + y)) → Spotted 99 t at v (at + 2)
   unfolding slot_value
   condition_read v e =
       let s : letters_value (x * 256 + y) ≡ some v = value_some (letters_value (x * 256 + y)) v (sym e) in
@@ -187,7 +187,7 @@ module _ (t : Text) (at x y : ℕ) (h : at ≤ length t) (p : x ≡ get_or t at 
       go true true [] = sym (condition_is (c ∷ f ∷ []) c f refl refl refl m n) ∙ e
       go true true (g ∷ w) = condition_long (c ∷ f ∷ g ∷ w) (λ z. omega arith)
 
-  pub condition_missing : Nothing ≡ slot_as (letters_value (x * 256 + y)) → Spotted 99 t at 0 at
+  pub condition_missing : None ≡ slot_as (letters_value (x * 256 + y)) → Spotted 99 t at 0 at
   unfolding slot_value
   condition_missing e =
       let first : get_or (drop at t) 0 0 ≡ x = get_or-drop at t 0 0 ∙ ap (λ (i : ℕ). get_or t i 0) (omega arith)

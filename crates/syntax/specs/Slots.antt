@@ -1,14 +1,12 @@
 -- What the code of the slots answers, by the definitions of texts.
-use Rattle.std.specs.Prelude.{cond, List, [], ◌∷◌, ℕ, suc, ◌+◌, ◌-◌, ◌*◌, min, eqb}
+use Rattle.std.specs.Prelude.{cond, List, [], ◌∷◌, ℕ, suc, ◌+◌, ◌-◌, ◌*◌, min, eqb, Some, None}
 use Rattle.std.proofs.Math.Option.{Option, none, some}
 use Rattle.text.specs.Text.{Text}
 use Rattle.syntax.specs.Syntax.{too_large, conditions}
-use Rattle.syntax.specs.declared.slots.Slot.{Slot}
-use Rattle.syntax.specs.declared.slots.Slot.TheVariants.{Value, Nothing}
 
-abbrev pub slot_as : Option ℕ → Slot
-slot_as none = Nothing
-slot_as (some v) = Value v
+abbrev pub slot_as : Option ℕ → Option ℕ
+slot_as none = None
+slot_as (some v) = Some v
 
 -- one digit more, up to the number that is too large for every field
 abbrev pub with_digit : ℕ → ℕ → ℕ

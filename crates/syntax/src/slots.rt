@@ -139,33 +139,26 @@ pub(crate) fn name_at(text: &[u8], at: usize) -> Spot
     Spot { value, stop: i }
 }
 
-// A condition's number, if there is one.
-#[derive(Drop)]
-pub enum Slot {
-    Value(u64),
-    Nothing,
-}
-
 // A condition's number, by its two letters as one number.
-fn condition_number(letters: u16) -> Slot
+fn condition_number(letters: u16) -> Option<u64>
     ensures { result ≡ slot_as (letters_value letters) }
 {
     match letters {
-        0x4551 => Slot::Value(0),
-        0x4e45 => Slot::Value(1),
-        0x4353 => Slot::Value(2),
-        0x4343 => Slot::Value(3),
-        0x4d49 => Slot::Value(4),
-        0x504c => Slot::Value(5),
-        0x5653 => Slot::Value(6),
-        0x5643 => Slot::Value(7),
-        0x4849 => Slot::Value(8),
-        0x4c53 => Slot::Value(9),
-        0x4745 => Slot::Value(10),
-        0x4c54 => Slot::Value(11),
-        0x4754 => Slot::Value(12),
-        0x4c45 => Slot::Value(13),
-        _ => Slot::Nothing,
+        0x4551 => Some(0),
+        0x4e45 => Some(1),
+        0x4353 => Some(2),
+        0x4343 => Some(3),
+        0x4d49 => Some(4),
+        0x504c => Some(5),
+        0x5653 => Some(6),
+        0x5643 => Some(7),
+        0x4849 => Some(8),
+        0x4c53 => Some(9),
+        0x4745 => Some(10),
+        0x4c54 => Some(11),
+        0x4754 => Some(12),
+        0x4c45 => Some(13),
+        _ => None,
     }
 }
 
@@ -178,10 +171,10 @@ pub(crate) fn condition_at(text: &[u8], at: usize) -> Spot
     let second = byte_at(text, at + 1);
     let number = condition_number((first as u16) * 256 + second as u16);
     match number {
-        Slot::Value(value) => Spot {
+        Some(value) => Spot {
             value,
             stop: at + 2,
         },
-        Slot::Nothing => Spot { value: 0, stop: at },
+        None => Spot { value: 0, stop: at },
     }
 }

@@ -1,10 +1,10 @@
 -- The starred rows of the bench table, in its order.
 use Rattle.std.specs.Prelude.{Bool, true, false, List, [], ◌∷◌, ◌++◌, ◌≡◌, ℕ, ◌%◌, length, replicate}
+use Rattle.refusals.specs.declared.check.Check.TheVariants as check
 use Rattle.refusals.specs.Refusal.{refusal_at}
 use Rattle.units.specs.Address.{memory_bytes}
 use Rattle.units.specs.Bytes.{halfword_at}
 use Rattle.isa.specs.Decode.{decode_of}
-use Rattle.isa.specs.declared.decoder.Decoded.TheVariants.{Defined, Undefined}
 use Rattle.isa.specs.declared.instruction.Instruction.TheVariants.{CmpHigh, Halt}
 use Rattle.alu.specs.Flags.{Flags}
 use Rattle.cpu.specs.Machine.{pc, machine, with_note}
@@ -13,7 +13,7 @@ use Rattle.cpu.specs.declared.machine.Machine.{Machine}
 use Rattle.cpu.specs.declared.outcome.Outcome.TheVariants.{Halted}
 use Rattle.packer.specs.Pack.{image_of}
 use Rattle.verifier.specs.Verify.{verify_of}
-use Rattle.verifier.specs.declared.verifier.Verdict.TheVariants.{Fit, Refused}
+use Rattle.std.specs.Prelude.{Some, None, Ok, Err}
 
 -- a machine with R0, R1, the PC, the flags and the note given, and zeros elsewhere
 abbrev pub machine_with : ℕ → ℕ → ℕ → Flags → ℕ → Machine
@@ -38,12 +38,12 @@ Does h result = (m : Machine) (memory : List ℕ) → pc m % 2 ≡ 0 → StandsO
 
 -- h is HALT with a note (Change 1), and a step on it sets that and changes nothing else
 abbrev pub HaltsWith : ℕ → ℕ → Type 0
-HaltsWith h note = (decode_of h ≡ Defined (Halt note))
+HaltsWith h note = (decode_of h ≡ Some (Halt note))
     × Does h (λ m memory. step_result (with_note note m) memory Halted)
 
 -- h is no instruction, and a step on it is stop 19, which changes nothing
 abbrev pub NoInstruction : ℕ → Type 0
-NoInstruction h = (decode_of h ≡ Undefined) × Does h (stopped 19)
+NoInstruction h = (decode_of h ≡ None) × Does h (stopped 19)
 
 -- the code P, whose first halfword is given
 abbrev pub code_p : ℕ → List ℕ
@@ -55,7 +55,7 @@ pub record StarredRows : Type 0 where
   pub row_0000 : HaltsWith 0x0000 0
   pub row_0001 : HaltsWith 0x0001 1
   pub row_4500 : NoInstruction 0x4500
-  pub row_4540 : decode_of 0x4540 ≡ Defined (CmpHigh 8 0)
+  pub row_4540 : decode_of 0x4540 ≡ Some (CmpHigh 8 0)
   pub row_DE00 : NoInstruction 0xDE00
   pub neg_8000 : (f : Flags) (note : ℕ) → Gives 0x4108 (machine_with 0 0x8000 0 f note)
       (machine_with 0x8000 0x8000 2 (nzcv true false false true) note)
@@ -71,6 +71,6 @@ pub record StarredRows : Type 0 where
       (machine_with 0x8000 0x0100 2 (nzcv true false f.c f.v) note)
   pub row_A001 : (f : Flags) (note : ℕ) → Gives 0xA001 (machine_with 0 0 6 f note) (machine_with 8 0 8 f note)
   pub p_256 : verify_of (image_of (code_p 0x21FC) 256 256)
-      ≡ Fit (record { code_bytes = 14; window_start = 256; window_length = 256 })
-  pub p_252 : verify_of (image_of (code_p 0x21FC) 256 252) ≡ Refused (refusal_at 10 (record { 0 = 10 }))
-  pub p_21FD : verify_of (image_of (code_p 0x21FD) 256 256) ≡ Refused (refusal_at 11 (record { 0 = 10 }))
+      ≡ Ok (record { code_bytes = 14; window_start = 256; window_length = 256 })
+  pub p_252 : verify_of (image_of (code_p 0x21FC) 256 252) ≡ Err (refusal_at check.Access (record { 0 = 10 }))
+  pub p_21FD : verify_of (image_of (code_p 0x21FD) 256 256) ≡ Err (refusal_at check.Alignment (record { 0 = 10 }))

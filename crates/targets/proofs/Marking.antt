@@ -13,18 +13,17 @@ use Rattle.units.specs.declared.address.InstructionIndex.{InstructionIndex}
 use Rattle.isa.specs.Decode.{decode_of}
 use Rattle.targets.specs.Targets.{address_of, decoded_at, jump_at, lands_on, goes_to, targeted_below, mark_words}
 use Rattle.targets.specs.Targets.{marked_at}
-use Rattle.targets.specs.declared.branch.Target.{Target}
-use Rattle.targets.specs.declared.branch.Target.TheVariants.{To, Nowhere}
 use Rattle.targets.specs.Marks.{MarkedTo, MarkedBelow}
+use Rattle.std.specs.Prelude.{Option, Some, None}
 
 -- marks that stay are right where nothing is reached
-pub stay : {jump : Target} {marks : List ℕ} → length marks ≡ mark_words → jump ≡ Nowhere → MarkedTo jump marks marks
+pub stay : {jump : (Option ByteAddress)} {marks : List ℕ} → length marks ≡ mark_words → jump ≡ None → MarkedTo jump marks marks
 stay w e = record { words = w; marked = λ j l. rw e refl }
 
-module _ {jump : Target} {a : ByteAddress} {k : InstructionIndex} (e : jump ≡ To a) (q : k ≡ instruction_index_of a)
+module _ {jump : (Option ByteAddress)} {a : ByteAddress} {k : InstructionIndex} (e : jump ≡ Some a) (q : k ≡ instruction_index_of a)
   where
     lands : (j : ℕ) → lands_on jump j ≡ eqb k.0 j
-    lands j = ap (λ (t : Target). lands_on t j) e ∙ ap (λ (x : InstructionIndex). eqb x.0 j) (sym q)
+    lands j = ap (λ (t : Option ByteAddress). lands_on t j) e ∙ ap (λ (x : InstructionIndex). eqb x.0 j) (sym q)
 
     -- or where it is past every code
     pub past : {marks : List ℕ} → length marks ≡ mark_words → 64 * mark_words ≤ k.0 → MarkedTo jump marks marks

@@ -4,29 +4,27 @@ use Rattle.std.specs.Prelude.{Bool, false, ◌||◌, List, ℕ, zero, suc, ◌/�
 use Rattle.units.specs.Address.{byte_address_of, instruction_index_of}
 use Rattle.units.specs.declared.address.ByteAddress.{ByteAddress}
 use Rattle.isa.specs.Decode.{decode_of}
-use Rattle.isa.specs.declared.decoder.Decoded.{Decoded}
-use Rattle.isa.specs.declared.decoder.Decoded.TheVariants.{Defined, Undefined}
-use Rattle.targets.specs.declared.branch.Target.{Target}
-use Rattle.targets.specs.declared.branch.Target.TheVariants.{To, Nowhere}
 use Rattle.targets.specs.Jumps.{jump_of}
+use Rattle.std.specs.Prelude.{Option, Some, None}
+use Rattle.isa.specs.declared.instruction.Instruction.{Instruction}
 
 -- the byte address of instruction i
 abbrev pub address_of : ℕ → ByteAddress
 address_of i = byte_address_of (record { 0 = i })
 
 -- instruction i of a code, decoded
-unfoldable pub decoded_at : List ℕ → ℕ → Decoded
+unfoldable pub decoded_at : List ℕ → ℕ → Option Instruction
 decoded_at code i = decode_of (get_or code i 0)
 
 -- where it can go
-abbrev pub jump_at : ByteAddress → Decoded → Target
-jump_at a (Defined i) = jump_of a i
-jump_at a Undefined = Nowhere
+abbrev pub jump_at : ByteAddress → Option Instruction → Option ByteAddress
+jump_at a (Some i) = jump_of a i
+jump_at a None = None
 
 -- whether that is instruction j
-abbrev pub lands_on : Target → ℕ → Bool
-lands_on (To a) j = eqb (instruction_index_of a).0 j
-lands_on Nowhere j = false
+abbrev pub lands_on : Option ByteAddress → ℕ → Bool
+lands_on (Some a) j = eqb (instruction_index_of a).0 j
+lands_on None j = false
 
 -- instruction i of the code is a branch to instruction j
 unfoldable pub goes_to : List ℕ → ℕ → ℕ → Bool

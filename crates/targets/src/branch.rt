@@ -5,13 +5,6 @@ ghost use Rattle.targets.specs.Targets.{jump_at};
 
 use units::ByteAddress;
 
-// Where an instruction can go, other than on to the next one.
-#[derive(Drop)]
-pub enum Target {
-    To(ByteAddress),
-    Nowhere,
-}
-
 // The upper bytes of branches: 1101, then a condition from 0 to 13.
 const FIRST_BRANCH: u8 = 0xd0;
 
@@ -19,15 +12,15 @@ const LAST_BRANCH: u8 = 0xdd;
 
 // Where the halfword at an address can go. It is looked at only as far as that
 // needs, because every halfword of a code is asked.
-pub fn jump(a: ByteAddress, h: u16) -> Target
+pub fn jump(a: ByteAddress, h: u16) -> Option<ByteAddress>
     ensures { result ≡ jump_at a (decode_of h) }
 {
     let upper = units::bits(h, 8, 8);
     if upper < FIRST_BRANCH {
-        return Target::Nowhere;
+        return None;
     }
     if upper > LAST_BRANCH {
-        return Target::Nowhere;
+        return None;
     }
-    Target::To(units::branch_target(a, units::bits(h, 0, 8)))
+    Some(a.branch_target(units::bits(h, 0, 8)))
 }

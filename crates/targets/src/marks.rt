@@ -5,8 +5,8 @@ ghost use Rattle.isa.specs.Decode.{decode_of};
 ghost use Rattle.targets.specs.Marks.{MarkedTo};
 ghost use Rattle.targets.specs.Targets.{jump_at, mark_words, marked_at};
 
-use super::branch::{Target, jump};
-use units::InstructionIndex;
+use super::branch::jump;
+use units::{ByteAddress, InstructionIndex};
 
 // The most instructions that a code has: 64 for each word of marks.
 const MOST_CODE: u16 = 15936;
@@ -38,10 +38,10 @@ pub fn mark_target(marks: &mut [u64; 249], i: InstructionIndex, h: u16)
     requires { length marks.old ≡ mark_words }
     ensures { MarkedTo (jump_at (byte_address_of i) (decode_of h)) marks.old marks.new }
 {
-    let Target::To(a) = jump(units::byte_address(i), h) else {
+    let Some(a) = jump(ByteAddress::from(i), h) else {
         return;
     };
-    let target = units::instruction_index(a);
+    let target = InstructionIndex::from(a);
     if target.0 < MOST_CODE {
         set_mark(marks, target);
     }

@@ -16,8 +16,6 @@ use Rattle.isa.specs.declared.instruction.Instruction.{Instruction}
 use Rattle.isa.specs.declared.instruction.Instruction.TheVariants.{MovImm, CmpImm, And, Eor, Asr, Tst, Neg, Cmp}
 use Rattle.isa.specs.declared.instruction.Instruction.TheVariants.{AddHigh, CmpHigh, MovHigh, Str, Ldr, Strb, Ldrb}
 use Rattle.isa.specs.declared.instruction.Instruction.TheVariants.{AddPc, Branch, Halt}
-use Rattle.isa.specs.declared.encoder.Encoded.{Encoded}
-use Rattle.isa.specs.declared.encoder.Encoded.TheVariants.{Halfword}
 use Rattle.isa.specs.Encode.{encode_of, imm_form, alu_form, high_form, memory_form}
 use Rattle.isa.specs.Encode as Encode
 use Rattle.text.specs.Text.{Text, is_small, is_same_text}
@@ -28,6 +26,8 @@ use Rattle.syntax.specs.Syntax.{slot_value}
 use Rattle.syntax.proofs.Rows.{never}
 use Rattle.assembler.specs.Assemble.{value_at, in_fours, in_reach, branch_byte, rows, instruction_of}
 use Rattle.text_laws.proofs.Lines.{syntax_exact}
+use Rattle.std.specs.Prelude.{Result, Ok}
+use Rattle.refusals.specs.declared.refusal.Refusal.{Refusal}
 
 -- a register's number, and a condition's
 below_less : (bound v : ℕ) (o : Option ℕ) → below bound o ≡ some v → (v < bound) × (o ≡ some v)
@@ -183,10 +183,10 @@ high_read t x e r =
         omega arith
 
 -- an instruction that has a halfword
-abbrev pub Encodes : Encoded → Type 0
-Encodes e = (h : ℕ) × (e ≡ Halfword h)
+abbrev pub Encodes : Result ℕ Refusal → Type 0
+Encodes e = (h : ℕ) × (e ≡ Ok h)
 
-fits : (a n : ℕ) (e : Encoded) → a < n → Encodes e → Encodes (Encode.given (ltb a n) e)
+fits : (a n : ℕ) (e : Result ℕ Refusal) → a < n → Encodes e → Encodes (Encode.given (ltb a n) e)
 fits a n e l w = (w.0, rw (lt-ltb a n l) w.1)
 
 imm_encodes : (op rd imm : ℕ) → rd < 8 → imm < 256 → Encodes (imm_form op rd imm)

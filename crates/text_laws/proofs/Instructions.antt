@@ -15,8 +15,6 @@ use Rattle.isa.specs.declared.instruction.Instruction.{Instruction}
 use Rattle.isa.specs.declared.instruction.Instruction.TheVariants.{MovImm, CmpImm, And, Eor, Asr, Tst, Neg, Cmp}
 use Rattle.isa.specs.declared.instruction.Instruction.TheVariants.{AddHigh, CmpHigh, MovHigh, Str, Ldr, Strb, Ldrb}
 use Rattle.isa.specs.declared.instruction.Instruction.TheVariants.{AddPc, Branch, Halt}
-use Rattle.isa.specs.declared.encoder.Encoded.{Encoded}
-use Rattle.isa.specs.declared.encoder.Encoded.TheVariants.{Halfword}
 use Rattle.isa.specs.Encode.{encode_of, imm_form, alu_form, high_form, memory_form, add_pc_form, branch_form, halt_form}
 use Rattle.isa.specs.Encode as Encode
 use Rattle.targets.specs.Targets.{address_of}
@@ -31,6 +29,8 @@ use Rattle.assembler.specs.Assemble.{value_at}
 use Rattle.lister.specs.List.{item_of, item_line}
 use Rattle.text_laws.proofs.Slots.{low, high, number, condition, label, decimal_word, register_past}
 use Rattle.text_laws.proofs.Reading.{Written, row_written, cmp_written}
+use Rattle.std.specs.Prelude.{Result, Ok}
+use Rattle.refusals.specs.declared.refusal.Refusal.{Refusal}
 
 abbrev pub item : ℕ → List ℕ → Item
 item row vs = record { row = row; values = vs }
@@ -44,46 +44,46 @@ abbrev pub read_as : Item → Item
 read_as x = cond (eqb x.row branch_row) (item branch_row (value_at x 0 ∷ name_at (value_at x 1) ∷ [])) x
 
 -- the tests that an instruction with a halfword has passed, format by format
-under : (a n : ℕ) (e : Encoded) (h : ℕ) → Encode.given (ltb a n) e ≡ Halfword h → (a < n) × (e ≡ Halfword h)
+under : (a n : ℕ) (e : Result ℕ Refusal) (h : ℕ) → Encode.given (ltb a n) e ≡ Ok h → (a < n) × (e ≡ Ok h)
 under a n e h q = go (ltb a n) refl q
   where
-    go : (b : Bool) → ltb a n ≡ b → Encode.given b e ≡ Halfword h → (a < n) × (e ≡ Halfword h)
+    go : (b : Bool) → ltb a n ≡ b → Encode.given b e ≡ Ok h → (a < n) × (e ≡ Ok h)
     go true l q = (ltb-true a n l, q)
     go false l q = clash (cc)
 
-imm_fits : (op rd imm h : ℕ) → imm_form op rd imm ≡ Halfword h → (rd < 8) × (imm < 256)
+imm_fits : (op rd imm h : ℕ) → imm_form op rd imm ≡ Ok h → (rd < 8) × (imm < 256)
 imm_fits op rd imm h e =
     let first = under rd 8 _ h e in
     (first.0, (under imm 256 _ h first.1).0)
 
-alu_fits : (op rs rd h : ℕ) → alu_form op rs rd ≡ Halfword h → (rs < 8) × (rd < 8)
+alu_fits : (op rs rd h : ℕ) → alu_form op rs rd ≡ Ok h → (rs < 8) × (rd < 8)
 alu_fits op rs rd h e =
     let first = under rs 8 _ h e in
     (first.0, (under rd 8 _ h first.1).0)
 
-high_fits : (op rs rd h : ℕ) → high_form op rs rd ≡ Halfword h → (rs < 16) × (rd < 16)
+high_fits : (op rs rd h : ℕ) → high_form op rs rd ≡ Ok h → (rs < 16) × (rd < 16)
 high_fits op rs rd h e =
     let first = under rs 16 _ h e in
     (first.0, (under rd 16 _ h first.1).0)
 
-memory_fits : (op offset rb rd h : ℕ) → memory_form op offset rb rd ≡ Halfword h
+memory_fits : (op offset rb rd h : ℕ) → memory_form op offset rb rd ≡ Ok h
     → (offset < 32) × (rb < 8) × (rd < 8)
 memory_fits op offset rb rd h e =
     let first = under offset 32 _ h e in
     let second = under rb 8 _ h first.1 in
     (first.0, second.0, (under rd 8 _ h second.1).0)
 
-add_pc_fits : (rd imm h : ℕ) → add_pc_form rd imm ≡ Halfword h → (rd < 8) × (imm < 256)
+add_pc_fits : (rd imm h : ℕ) → add_pc_form rd imm ≡ Ok h → (rd < 8) × (imm < 256)
 add_pc_fits rd imm h e =
     let first = under rd 8 _ h e in
     (first.0, (under imm 256 _ h first.1).0)
 
-branch_fits : (c offset h : ℕ) → branch_form c offset ≡ Halfword h → (c < 14) × (offset < 256)
+branch_fits : (c offset h : ℕ) → branch_form c offset ≡ Ok h → (c < 14) × (offset < 256)
 branch_fits c offset h e =
     let first = under c 14 _ h e in
     (first.0, (under offset 256 _ h first.1).0)
 
-halt_fits : (note h : ℕ) → halt_form note ≡ Halfword h → note < 256
+halt_fits : (note h : ℕ) → halt_form note ≡ Ok h → note < 256
 halt_fits note h e = (under note 256 _ h e).0
 
 -- what a slot of low registers takes is low
@@ -127,7 +127,7 @@ module _ (rs rd : ℕ) (h : rs < 16) (g : rd < 16) (m : 7 < max rs rd) where
 pub label_written : (a : ℕ) → Written (line_with label_row (a ∷ [])) (item label_row (name_at a ∷ []))
 label_written a = row_written 0 (a ∷ []) (name_at a ∷ []) tt tt (label a, (refl, tt))
 
-pub written : (a : ByteAddress) (h : ℕ) (x : Instruction) → encode_of x ≡ Halfword h
+pub written : (a : ByteAddress) (h : ℕ) (x : Instruction) → encode_of x ≡ Ok h
     → Written (item_line (item_of a x)) (read_as (item_of a x))
 written a h (MovImm rd imm) e =
     let fits = imm_fits 0 rd imm h e in
@@ -287,7 +287,7 @@ Landing items i x =
     ≡ some (record { line = line; number = j }))
 
 -- the item says its instruction again
-pub said : (items : List Item) (k i h : ℕ) (x : Instruction) → encode_of x ≡ Halfword h → i < 15936
+pub said : (items : List Item) (k i h : ℕ) (x : Instruction) → encode_of x ≡ Ok h → i < 15936
     → Landing items i x → said_at items k i (read_as (item_of (address_of i) x)) ≡ Instructs x
 unfolding said_at
 said items k i h (MovImm rd imm) e l to =

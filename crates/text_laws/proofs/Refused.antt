@@ -10,7 +10,6 @@ use lib.Dec.{leb}
 use lib.ListN.{length, get_or}
 use borrow.Author.Tests.{leb-true, leb-false, le-leb, lt-leb}
 use Rattle.units.proofs.Cases.{clash, lt_or_ge}
-use Rattle.isa.specs.declared.encoder.Encoded.TheVariants.{Halfword}
 use Rattle.isa.specs.declared.instruction.Instruction.{Instruction}
 use Rattle.isa.specs.declared.instruction.Instruction.TheVariants.{Halt}
 use Rattle.isa.specs.Encode.{encode_of}
@@ -29,6 +28,7 @@ use Rattle.text_laws.specs.Claims.{RefusedExact, AssembledFully}
 use Rattle.text_laws.proofs.Texts.{read_says, read_unread, says_read, unread_read}
 use Rattle.text_laws.proofs.Bounds.{Encodes, read_encodes}
 use Rattle.text_laws.proofs.Faults.{Faulty, not_both, CheckedAs, checked}
+use Rattle.std.specs.Prelude.{Ok}
 
 -- 15 by its two limits
 pub count_wrong : (n : ℕ) → check15 n ≡ false → (n ≡ 0) ⊎ (most_code < n)
@@ -135,7 +135,7 @@ module _ (text : Text) (size : ℕ) where
   because_checked items p (Code is) w = go (leb (length is) size) refl
     where
       encoded : (n : ℕ) (x : Instruction) → Instructed items n x
-          → encode_of x ≡ Halfword (get_or (halfwords_of is) (number_before items n) 0)
+          → encode_of x ≡ Ok (get_or (halfwords_of is) (number_before items n) 0)
       encoded n x t =
           let at = w.2 n x (omega arith) t in
           let has = said_encodes text items p.says n x t in
@@ -144,7 +144,7 @@ module _ (text : Text) (size : ℕ) where
           = ap (λ (j : ℕ). get_or (halfwords_of is) j 0) number ∙ halfword_at is at.0
           ∙ ap (λ (y : Instruction). halfword_in (encode_of y)) at.2 in
           let value : halfword_in (encode_of x) ≡ has.0 = ap halfword_in has.1 in
-          has.1 ∙ ap Halfword (sym (same ∙ value))
+          has.1 ∙ ap Ok (sym (same ∙ value))
 
       go : (b : Bool) → leb (length is) size ≡ b
           → Because text size (cond b (Assembles (halfwords_of is)) (Refuses 16 0))

@@ -18,15 +18,10 @@ use Rattle.units.specs.declared.address.ByteAddress.{ByteAddress}
 use Rattle.units.proofs.Cases.{clash}
 use Rattle.isa.specs.declared.instruction.Instruction.{Instruction}
 use Rattle.isa.specs.declared.instruction.Instruction.TheVariants.{Branch, Halt}
-use Rattle.isa.specs.declared.decoder.Decoded.{Decoded}
-use Rattle.isa.specs.declared.decoder.Decoded.TheVariants.{Defined, Undefined}
-use Rattle.isa.specs.declared.encoder.Encoded.TheVariants.{Halfword}
 use Rattle.isa.specs.Encode.{encode_of}
 use Rattle.isa_laws.proofs.Claims.{decode_then_encode}
 use Rattle.image.specs.Format.{most_code}
 use Rattle.image.specs.Check.{Asked, whole, first_no, rows_below}
-use Rattle.image.specs.declared.answer.Answer.{Answer}
-use Rattle.image.specs.declared.answer.Answer.TheVariants.{Pass, Refused}
 use Rattle.image.specs.declared.checker.Layout.{Layout}
 use Rattle.image.proofs.Answers.{head_passed, tail_passed, left_passed, each_passed}
 use Rattle.targets.specs.Targets.{address_of, decoded_at, goes_to, targeted_below, targeted}
@@ -45,22 +40,25 @@ use Rattle.text_laws.proofs.Slots.{label_injective}
 use Rattle.text_laws.proofs.Reading.{read_written}
 use Rattle.text_laws.proofs.Texts.{read_says}
 use Rattle.text_laws.proofs.Instructions.{item, name_at, read_as, Landing, written, label_written, no_label, said}
+use Rattle.std.specs.Prelude.{Some, None, Result, Ok, Err, ⊤}
+use Rattle.refusals.specs.declared.check.Check.TheVariants as check
+use Rattle.refusals.specs.declared.refusal.Refusal.{Refusal}
 
 -- the instruction that a halfword is
-abbrev pub instruction_in : Decoded → Instruction
-instruction_in (Defined x) = x
-instruction_in Undefined = Halt 0
+abbrev pub instruction_in : Option Instruction → Instruction
+instruction_in (Some x) = x
+instruction_in None = Halt 0
 
 -- instruction i of a code has passed the lister's checks
-abbrev pub Passes : Layout → ByteAddress → Decoded → Type 0
-Passes layout a d = (d ≡ Defined (instruction_in d)) × (check13 layout a (instruction_in d) ≡ true)
+abbrev pub Passes : Layout → ByteAddress → Option Instruction → Type 0
+Passes layout a d = (d ≡ Some (instruction_in d)) × (check13 layout a (instruction_in d) ≡ true)
 
-pub row_passes : (layout : Layout) (a : ByteAddress) (d : Decoded) → first_no (instruction_checks layout a d) ≡ Pass
+pub row_passes : (layout : Layout) (a : ByteAddress) (d : Option Instruction) → first_no (instruction_checks layout a d) ≡ (Ok tt)
     → Passes layout a d
-row_passes layout a (Defined x) e =
-    let second : Asked = at_address a 13 (check13 layout a x) in
-    (refl, head_passed second [] (tail_passed (at_address a 9 (check9 (Defined x))) (second ∷ []) e))
-row_passes layout a Undefined e = absurd (false≢true (head_passed (at_address a 9 (check9 Undefined)) [] e))
+row_passes layout a (Some x) e =
+    let second : Asked = at_address a check.Target (check13 layout a x) in
+    (refl, head_passed second [] (tail_passed (at_address a check.Defined (check9 (Some x))) (second ∷ []) e))
+row_passes layout a None e = absurd (false≢true (head_passed (at_address a check.Defined (check9 None)) [] e))
 
 -- what an instruction of the code goes to is a target
 goes_targeted : (code : List ℕ) (i j : ℕ) → i < length code → goes_to code i j ≡ true → targeted code j ≡ true
@@ -198,7 +196,7 @@ module _ (code : List ℕ) where
   -- a code that the lister doesn't refuse
   module _ (small : (i : ℕ) → get_or code i 0 < 65536) (few : length code ≤ 15936)
       (passes : (i : ℕ) → i < length code → Passes (layout_for code) (address_of i) (decoded_at code i)) where
-    encoded : (i : ℕ) → i < length code → encode_of (instruction_at i) ≡ Halfword (get_or code i 0)
+    encoded : (i : ℕ) → i < length code → encode_of (instruction_at i) ≡ Ok (get_or code i 0)
     unfolding decoded_at
     encoded i h = decode_then_encode (get_or code i 0) (small i) (instruction_at i) (passes i h).0
 
@@ -217,7 +215,7 @@ module _ (code : List ℕ) where
             ≡ Items (item_at i ∷ items_from (suc i) m)
         instruction n f =
             let l : i < length code = omega arith in
-            subst (λ (d : Decoded). read_from n (lines_of (instruction_line (address_of i) d ++ listing_from (suc i) m))
+            subst (λ (d : Option Instruction). read_from n (lines_of (instruction_line (address_of i) d ++ listing_from (suc i) m))
             ≡ Items (item_at i ∷ items_from (suc i) m)) (sym (passes i l).0)
             (read_written n _ (listing_from (suc i) m) (item_at i) (items_from (suc i) m)
             (written (address_of i) (get_or code i 0) (instruction_at i) (encoded i l)) (f (suc n)))
@@ -245,7 +243,7 @@ module _ (code : List ℕ) where
         let passed : check13 (layout_for code) (address_of i) (Branch condition offset) ≡ true
         = subst (λ (x : Instruction). check13 (layout_for code) (address_of i) x ≡ true) e (passes i h).1 in
         let inside : to < 2 * length code = ltb-true to (2 * length code) passed in
-        let decoded : decoded_at code i ≡ Defined (Branch condition offset) = (passes i h).0 ∙ ap Defined e in
+        let decoded : decoded_at code i ≡ Some (Branch condition offset) = (passes i h).0 ∙ ap Some e in
         let goes : goes_to code i (to / 2) ≡ true = rw decoded (eq-eqb (to / 2) (to / 2) refl) in
         let target = goes_targeted code i (to / 2) h goes in
         let found = target_found (to / 2) 1 0 (length code) target (omega arith) (omega arith) (omega arith) in
@@ -353,11 +351,11 @@ listed : (code : List ℕ) (room : ℕ) (t : Text) → list_of code room ≡ Lis
 unfolding list_of
 listed code room t e =
     let rows : List Asked = rows_below (checks_at code) (length code) in
-    let last : List Asked = whole 16 (check16 code room) ∷ [] in
+    let last : List Asked = whole check.OutputLength (check16 code room) ∷ [] in
     let done = go (listing_of code) (first_no (list_checks code room)) e in
-    let first : check15 code ≡ true = head_passed (whole 15 (check15 code)) (rows ++ last) done.0 in
-    let all : first_no rows ≡ Pass
-    = left_passed rows last (tail_passed (whole 15 (check15 code)) (rows ++ last) done.0) in
+    let first : check15 code ≡ true = head_passed (whole check.CodeLength (check15 code)) (rows ++ last) done.0 in
+    let all : first_no rows ≡ (Ok tt)
+    = left_passed rows last (tail_passed (whole check.CodeLength (check15 code)) (rows ++ last) done.0) in
     record {
       some_code = leb-true 1 (length code) (and_left (leb 1 (length code)) (leb (length code) most_code) first);
       fits_image =
@@ -368,9 +366,9 @@ listed code room t e =
       text = done.1;
     }
   where
-    go : (s : Text) (a : Answer) → listing_as s a ≡ Lists t → (a ≡ Pass) × (s ≡ t)
-    go s Pass e = (refl, cc)
-    go s (Refused r) e = clash (cc)
+    go : (s : Text) (a : Result ⊤ Refusal) → listing_as s a ≡ Lists t → (a ≡ (Ok tt)) × (s ≡ t)
+    go s (Ok tt) e = (refl, cc)
+    go s (Err r) e = clash (cc)
 
 pub list_then_assemble : ListThenAssemble
 list_then_assemble code room size t small e n =

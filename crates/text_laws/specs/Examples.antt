@@ -2,6 +2,7 @@
 -- line feed, 13 the carriage return, 9 the tab.
 use Rattle.std.specs.Prelude.{List, [], ◌∷◌, ◌++◌, ◌≡◌, ℕ, zero, suc, replicate}
 use Prim.Native.String.{String}
+use Rattle.refusals.specs.declared.check.Check.TheVariants as check
 use Rattle.refusals.specs.Refusal.{refusal, refusal_at}
 use Rattle.text.specs.Text.{Text, quoted}
 use Rattle.assembler.specs.Assemble.{Assembly, assemble_of, Assembles, Refuses}
@@ -123,14 +124,14 @@ pub record Listings : Type 0 where
   pub no_label : listed (0xA001 ∷ 0x6041 ∷ 0x0000 ∷ []) ≡ Lists (quoted "ADD R0, PC, #4\nSTR R1, [R0, #4]\nHALT #0\n")
   pub high_registers : listed (0x44C7 ∷ 0x4540 ∷ 0x4178 ∷ 0 ∷ [])
       ≡ Lists (quoted "ADD R15, R8\nCMP R0, R8\nCMP R0, R7\nHALT #0\n")
-  pub empty : listed [] ≡ List.Refuses (refusal 15)
+  pub empty : listed [] ≡ List.Refuses (refusal check.CodeLength)
   -- 9 and 13 come instruction by instruction, 16 last
-  pub undefined : listed (0x0000 ∷ 0x0100 ∷ []) ≡ List.Refuses (refusal_at 9 (record { 0 = 2 }))
-  pub outside : listed (0xD0FF ∷ 0x0100 ∷ []) ≡ List.Refuses (refusal_at 13 (record { 0 = 0 }))
-  pub behind : listed (0xDD01 ∷ []) ≡ List.Refuses (refusal_at 13 (record { 0 = 0 }))
-  pub short : list_of (7 ∷ []) 7 ≡ List.Refuses (refusal 16)
+  pub undefined : listed (0x0000 ∷ 0x0100 ∷ []) ≡ List.Refuses (refusal_at check.Defined (record { 0 = 2 }))
+  pub outside : listed (0xD0FF ∷ 0x0100 ∷ []) ≡ List.Refuses (refusal_at check.Target (record { 0 = 0 }))
+  pub behind : listed (0xDD01 ∷ []) ≡ List.Refuses (refusal_at check.Target (record { 0 = 0 }))
+  pub short : list_of (7 ∷ []) 7 ≡ List.Refuses (refusal check.OutputLength)
   pub exact : list_of (7 ∷ []) 8 ≡ Lists (quoted "HALT #7\n")
-  pub undefined_first : list_of (0x0100 ∷ []) 0 ≡ List.Refuses (refusal_at 9 (record { 0 = 0 }))
+  pub undefined_first : list_of (0x0100 ∷ []) 0 ≡ List.Refuses (refusal_at check.Defined (record { 0 = 0 }))
 
 pub record Examples : Type 0 where
   pub lines : Lines

@@ -1,8 +1,7 @@
 -- Why a text is refused, and what it assembles to ("Change 4"): a sentence for each answer of the assembler, over the
 -- text's lines. Lines are counted from 0 here, and a refusal carries the line's number from 1.
-use Rattle.std.specs.Prelude.{true, false, List, [], ◌∷◌, ◌++◌, ◌⊎◌, ◌≡◌, ℕ, suc, ◌<◌, ◌≤◌, length, get_or, take}
+use Rattle.std.specs.Prelude.{true, false, List, [], ◌∷◌, ◌++◌, ◌⊎◌, ◌≡◌, ℕ, suc, ◌<◌, ◌≤◌, length, get_or, take, Ok}
 use Rattle.std.proofs.Math.Option.{none, some}
-use Rattle.isa.specs.declared.encoder.Encoded.TheVariants.{Halfword}
 use Rattle.isa.specs.declared.instruction.Instruction.{Instruction}
 use Rattle.isa.specs.Encode.{encode_of}
 use Rattle.image.specs.Format.{most_code}
@@ -118,4 +117,4 @@ pub record Assembled (text : Text) (size : ℕ) (code : List ℕ) : Type 0 where
   pub room : instructions_in items ≤ size
   pub count : length code ≡ instructions_in items
   pub halfword : (n : ℕ) (x : Instruction) → Instructed items n x
-      → encode_of x ≡ Halfword (get_or code (number_before items n) 0)
+      → encode_of x ≡ Ok (get_or code (number_before items n) 0)

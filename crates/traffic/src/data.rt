@@ -5,7 +5,7 @@ ghost use Rattle.traffic.specs.Data.{kind_touched, address_touched};
 
 use units::ByteAddress;
 
-#[derive(Clone, Copy)]
+#[derive(Clone, Copy, PartialEq, Eq, Debug)]
 pub enum Traffic {
     NoData,
     ReadByte(ByteAddress),

@@ -8,7 +8,7 @@ ghost use Rattle.traffic.specs.Log.{empty_log, with_access, last_logged};
 use super::data::Traffic;
 
 // The step of the last access, counted from 0, and what that touched.
-#[derive(Clone, Copy)]
+#[derive(Clone, Copy, PartialEq, Eq, Debug)]
 pub struct Log {
     pub step: u32,
     pub touched: Traffic,

@@ -7,7 +7,7 @@ pub fn halfword_at(bytes: &[u8], p: usize) -> u16
     requires { p + 2 ≤ length bytes.now }
     ensures { result ≡ halfword_at bytes.now p }
 {
-    (bytes[p] as u16) + (bytes[p + 1] as u16) * 256
+    u16::from_le_bytes([bytes[p], bytes[p + 1]])
 }
 
 // Stores a halfword at byte `p`.
@@ -15,6 +15,7 @@ pub fn put_halfword(bytes: &mut [u8], p: usize, h: u16)
     requires { p + 2 ≤ length bytes.old }
     ensures { bytes.new ≡ with_halfword bytes.old p h }
 {
-    bytes[p] = (h % 256) as u8;
-    bytes[p + 1] = (h / 256) as u8;
+    let [low, high] = h.to_le_bytes();
+    bytes[p] = low;
+    bytes[p + 1] = high;
 }

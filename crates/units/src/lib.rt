@@ -6,9 +6,6 @@ mod address;
 mod bytes;
 mod fields;
 
-pub use address::{
-    ByteAddress, InstructionIndex, MEMORY_BYTES, branch_target, byte_address, instruction_index,
-    pc_sum,
-};
+pub use address::{ByteAddress, InstructionIndex, MEMORY_BYTES};
 pub use bytes::{halfword_at, put_halfword};
 pub use fields::{bits, high_rd, high_rs};

@@ -11,13 +11,13 @@ use Rattle.units.specs.declared.address.InstructionIndex.{InstructionIndex}
 use Rattle.image.specs.Check.{check_of}
 use Rattle.image.specs.Code.{code_position, code_at, code_of}
 use Rattle.image.specs.Format.{most_code}
-use Rattle.image.specs.declared.checker.Checked.TheVariants.{Valid}
 use Rattle.image.specs.declared.checker.Layout.{Layout}
 use Rattle.image.proofs.Valid.{valid_code, valid_code_bytes, valid_size, code_in_file, code_halfword_is}
 use Rattle.verifier.specs.Position.{BlockOf, block_end}
 use Rattle.verifier.proofs.Position.{Ends, ends, Within, in_block, Between, between_next}
+use Rattle.std.specs.Prelude.{Ok}
 
-module _ (file : List ℕ) (layout : Layout) (ok : check_of file ≡ Valid layout) where
+module _ (file : List ℕ) (layout : Layout) (ok : check_of file ≡ Ok layout) where
   module _ (k : InstructionIndex) (e : k ≡ instruction_index_of (record { 0 = layout.code_bytes })) where
     -- so many turns it takes
     pub count_is : k.0 ≡ length (code_of file)
@@ -32,7 +32,7 @@ module _ (file : List ℕ) (layout : Layout) (ok : check_of file ≡ Valid layou
 
 -- a turn of the walk is at instruction n of an accepted file's code, which stands at byte p
 pub record Turn (file : List ℕ) (layout : Layout) (n p : ℕ) : Type 0 where
-  pub accepted : check_of file ≡ Valid layout
+  pub accepted : check_of file ≡ Ok layout
   pub inside : n < length (code_of file)
   pub at : p ≡ code_position n
 

@@ -11,14 +11,10 @@ use Rattle.units.specs.Field.{field}
 use Rattle.units.specs.declared.address.ByteAddress.{ByteAddress}
 use Rattle.units.proofs.Cases.{clash}
 use Rattle.isa.specs.Decode.{only, decode_of}
-use Rattle.isa.specs.declared.decoder.Decoded.{Decoded}
-use Rattle.isa.specs.declared.decoder.Decoded.TheVariants.{Defined, Undefined}
 use Rattle.isa.specs.declared.instruction.Instruction.TheVariants.{Branch}
 use Rattle.isa.proofs.Formats.{is_lower_branch, is_upper_branch, is_none}
 use Rattle.image.specs.declared.checker.Layout.{Layout}
 use Rattle.targets.specs.Targets.{jump_at}
-use Rattle.targets.specs.declared.branch.Target.{Target}
-use Rattle.targets.specs.declared.branch.Target.TheVariants.{To, Nowhere}
 use Rattle.targets.proofs.Jumps.{is_branch, no_branch}
 use Rattle.checks.specs.State.{after_of}
 use Rattle.checks.specs.Numbers.{target_number}
@@ -26,47 +22,49 @@ use Rattle.checks.specs.Questions.{stays_in_code}
 use Rattle.verifier.specs.Numbers.{number_of}
 use Rattle.verifier.specs.Visit.{Visited}
 use Rattle.verifier.specs.Words.{state_of}
+use Rattle.std.specs.Prelude.{Option, Some, None}
+use Rattle.isa.specs.declared.instruction.Instruction.{Instruction}
 
-to_nowhere : (t : ByteAddress) → Nowhere ≡ To t → ⊥
+to_nowhere : (t : ByteAddress) → None ≡ Some t → ⊥
 to_nowhere t e = clash (cc)
 
 module _ (a : ByteAddress) (h : ℕ) where
   -- what goes somewhere is a branch
-  is_jump : (t : ByteAddress) → jump_at a (decode_of h) ≡ To t → decode_of h
-      ≡ Defined (Branch (field h 8 4) (field h 0 8))
+  is_jump : (t : ByteAddress) → jump_at a (decode_of h) ≡ Some t → decode_of h
+      ≡ Some (Branch (field h 8 4) (field h 0 8))
   is_jump t e = go (dec_le 208 (field h 8 8)) (dec_le (field h 8 8) 221)
     where
       go : Dec (208 ≤ field h 8 8) → Dec (field h 8 8 ≤ 221) → decode_of h
-          ≡ Defined (Branch (field h 8 4) (field h 0 8))
+          ≡ Some (Branch (field h 8 4) (field h 0 8))
       go (yes low) (yes high) = is_branch h low high
       go (yes low) (no n) = absurd (to_nowhere t (sym (no_branch a h (λ l u. n u)) ∙ e))
       go (no n) d = absurd (to_nowhere t (sym (no_branch a h (λ l u. n l)) ∙ e))
 
   -- only where it goes is asked of it, and it leaves the state as it is
-  pub jump_known : {layout : Layout} {ws : List ℕ} {t : ByteAddress} {n : ℕ} → jump_at a (decode_of h) ≡ To t
+  pub jump_known : {layout : Layout} {ws : List ℕ} {t : ByteAddress} {n : ℕ} → jump_at a (decode_of h) ≡ Some t
       → n ≡ target_number layout t
       → Visited layout a (decode_of h) ws ws n
   jump_known {layout} {ws} {t} e q =
       let d = is_jump t e in
       record {
         number =
-            q ∙ ap (λ (x : Target). cond (stays_in_code layout x) 0 13) (sym e ∙ ap (jump_at a) d)
+            q ∙ ap (λ (x : Option ByteAddress). cond (stays_in_code layout x) 0 13) (sym e ∙ ap (jump_at a) d)
             ∙ sym (ap (number_of (state_of ws) layout a) d);
-        state = sym (ap (λ (x : Decoded). after_of a x (state_of ws)) d);
+        state = sym (ap (λ (x : Option Instruction). after_of a x (state_of ws)) d);
       }
 
-  module _ (fits : h < 65536) (still : jump_at a (decode_of h) ≡ Nowhere) where
+  module _ (fits : h < 65536) (still : jump_at a (decode_of h) ≡ None) where
     -- a halfword with the first bits of a branch that is none
     still_lower : field h 11 5 ≡ 26 → ⊥
     still_lower e = to_nowhere _ (sym still ∙ ap (jump_at a) (is_lower_branch h fits e))
 
-    still_upper : field h 11 5 ≡ 27 → decode_of h ≡ Undefined
+    still_upper : field h 11 5 ≡ 27 → decode_of h ≡ None
     still_upper e =
         let d = is_upper_branch h fits e in
         d ∙ go (eqb (field h 12 1) 1) (ltb (field h 8 4) 14) (sym (ap (jump_at a) d) ∙ still)
       where
-        go : (t u : Bool) → jump_at a (only t (only u (Defined (Branch (field h 8 4) (field h 0 8))))) ≡ Nowhere
-            → only t (only u (Defined (Branch (field h 8 4) (field h 0 8)))) ≡ Undefined
+        go : (t u : Bool) → jump_at a (only t (only u (Some (Branch (field h 8 4) (field h 0 8))))) ≡ None
+            → only t (only u (Some (Branch (field h 8 4) (field h 0 8)))) ≡ None
         go true true q = absurd (to_nowhere _ (sym q))
         go true false q = refl
         go false u q = refl
@@ -75,10 +73,10 @@ module _ (a : ByteAddress) (h : ℕ) where
     -- stores are out of the way
     pub is_undefined : {B : Type 0} (n : ℕ) → n ≡ field h 11 5 → (field h 13 3 ≡ 2 → ⊥) → (field h 13 3 ≡ 3 → ⊥)
         → (((B × (n ≡ 0 → ⊥)) × (n ≡ 4 → ⊥)) × (n ≡ 5 → ⊥)) × (n ≡ 20 → ⊥)
-        → decode_of h ≡ Undefined
+        → decode_of h ≡ None
     is_undefined n told registers memory rest = go (eqb n 27) refl
       where
-        go : (t : Bool) → eqb n 27 ≡ t → decode_of h ≡ Undefined
+        go : (t : Bool) → eqb n 27 ≡ t → decode_of h ≡ None
         go true e = still_upper (sym told ∙ eqb-true n 27 e)
         go false e =
             let r : n ≡ 8 → ⊥ = λ z. registers (omega (arith, told)) in

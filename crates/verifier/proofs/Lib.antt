@@ -2,7 +2,7 @@ pub mod Accepted
 pub mod Fit
 pub mod Jumps
 pub mod Memory
-pub mod Numbers
+pub mod Found
 pub mod Position
 pub mod Walk
 pub mod Words

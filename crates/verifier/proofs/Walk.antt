@@ -11,15 +11,11 @@ use Rattle.refusals.specs.Refusal.{refusal_at}
 use Rattle.units.specs.declared.address.ByteAddress.{ByteAddress}
 use Rattle.refusals.specs.declared.refusal.Refusal.{Refusal}
 use Rattle.isa.specs.Decode.{decode_of}
-use Rattle.isa.specs.declared.decoder.Decoded.{Decoded}
-use Rattle.isa.specs.declared.decoder.Decoded.TheVariants.{Defined, Undefined}
 use Rattle.isa.specs.declared.instruction.Instruction.{Instruction}
 use Rattle.isa.specs.declared.instruction.Instruction.TheVariants.{MovImm, CmpImm, And, Eor, Asr, Tst, Neg, Cmp}
 use Rattle.isa.specs.declared.instruction.Instruction.TheVariants.{AddHigh, CmpHigh, MovHigh, Str, Ldr, Strb, Ldrb}
 use Rattle.isa.specs.declared.instruction.Instruction.TheVariants.{AddPc, Branch, Halt}
 use Rattle.image.specs.Check.{first_no, rows_below}
-use Rattle.image.specs.declared.answer.Answer.{Answer}
-use Rattle.image.specs.declared.answer.Answer.TheVariants as answer
 use Rattle.image.specs.declared.checker.Layout.{Layout}
 use Rattle.image.proofs.Answers.{next, stands}
 use Rattle.targets.specs.Targets.{address_of, decoded_at, targeted}
@@ -30,8 +26,8 @@ use Rattle.verifier.specs.Progress.{last_answer, PassedBelow, Walked}
 use Rattle.verifier.specs.Visit.{Visited}
 use Rattle.verifier.specs.Words.{state_of}
 use Rattle.verifier.specs.Verify.{entering, values_at, checks_at, code_checks, verdict_as, verify_code}
-use Rattle.verifier.specs.declared.verifier.Verdict.TheVariants.{Fit, Refused}
 use Rattle.verifier.proofs.Numbers.{told_first, told_last}
+use Rattle.std.specs.Prelude.{Option, Some, None, Result, Ok, Err, ⊤}
 
 -- ---- the state
 
@@ -66,17 +62,17 @@ length_transfer a (AddPc rd imm) s = length-set s _ _
 length_transfer a (Branch condition offset) s = refl
 length_transfer a (Halt note) s = refl
 
-length_after : (a : ByteAddress) (d : Decoded) (s : State) → length (after_of a d s) ≡ length s
-length_after a (Defined i) s = length_transfer a i s
-length_after a Undefined s = refl
+length_after : (a : ByteAddress) (d : Option Instruction) (s : State) → length (after_of a d s) ≡ length s
+length_after a (Some i) s = length_transfer a i s
+length_after a None s = refl
 
 -- a halfword whose meaning is known
-pub as_known : {layout : Layout} {a : ByteAddress} {d known : Decoded} {before after : List ℕ} {r : ℕ} → d ≡ known
+pub as_known : {layout : Layout} {a : ByteAddress} {d known : (Option Instruction)} {before after : List ℕ} {r : ℕ} → d ≡ known
     → Visited layout a known before after r → Visited layout a d before after r
 as_known is visited = rw is visited
 
 -- one that has none
-pub not_known : {layout : Layout} {a : ByteAddress} {d : Decoded} {ws : List ℕ} → d ≡ Undefined
+pub not_known : {layout : Layout} {a : ByteAddress} {d : (Option Instruction)} {ws : List ℕ} → d ≡ None
     → Visited layout a d ws ws 9
 not_known is = as_known is (record { number = refl; state = refl })
 
@@ -97,28 +93,28 @@ length_values code n = length_arriving (address_of n) (targeted code n) (enterin
 
 -- ---- the checks
 
-pub answer_refused : (a : ByteAddress) (n : ℕ) → (n ≡ 0 → ⊥) → answer_at a n ≡ answer.Refused (refusal_at n a)
+pub answer_refused : (a : ByteAddress) (n : ℕ) → (n ≡ 0 → ⊥) → answer_at a n ≡ Err (refusal_at n a)
 answer_refused a zero ne = absurd (ne refl)
 answer_refused a (suc n) ne = refl
 
 module _ (code : List ℕ) (layout : Layout) where
-  pub verdict_is : (x : Answer) → first_no (code_checks code layout (length code)) ≡ x
+  pub verdict_is : (x : Result ⊤ Refusal) → first_no (code_checks code layout (length code)) ≡ x
       → verdict_as layout x ≡ verify_code code layout
   unfolding verify_code
   verdict_is x e = sym (ap (verdict_as layout) e)
 
-  pub fit : first_no (code_checks code layout (length code)) ≡ answer.Pass → Fit layout ≡ verify_code code layout
-  fit e = verdict_is answer.Pass e
+  pub fit : first_no (code_checks code layout (length code)) ≡ (Ok tt) → Ok layout ≡ verify_code code layout
+  fit e = verdict_is (Ok tt) e
 
   -- the first instruction that does not pass decides
-  pub refusal : (n : ℕ) (r : Refusal) → n < length code → first_no (code_checks code layout n) ≡ answer.Pass
-      → first_no (checks_at code layout n) ≡ answer.Refused r → Refused r ≡ verify_code code layout
+  pub refusal : (n : ℕ) (r : Refusal) → n < length code → first_no (code_checks code layout n) ≡ (Ok tt)
+      → first_no (checks_at code layout n) ≡ Err r → Err r ≡ verify_code code layout
   refusal n r h e q =
-      verdict_is (answer.Refused r) (stands (checks_at code layout) (suc n) (length code) r h
+      verdict_is (Err r) (stands (checks_at code layout) (suc n) (length code) r h
       (next (checks_at code layout) n e ∙ q))
 
   -- before the last instruction check 14 says nothing
-  passed : (n : ℕ) → n < length code → PassedBelow code layout n → first_no (code_checks code layout n) ≡ answer.Pass
+  passed : (n : ℕ) → n < length code → PassedBelow code layout n → first_no (code_checks code layout n) ≡ (Ok tt)
   passed zero h e = e
   passed (suc n) h e = e ∙ rw (ne_eqb (suc n) (length code) (λ (p : suc n ≡ length code). omega arith)) refl
 
@@ -131,7 +127,7 @@ module _ (code : List ℕ) (layout : Layout) where
 -- what a visit to instruction n, at an address, decides: k is the number of the check that fails, s the state left
 pub record Decides (code : List ℕ) (layout : Layout) (n : ℕ) (a : ByteAddress) (k : ℕ) (s : State) : Type 0 where
   -- the verdict
-  pub fails : (k ≡ 0 → ⊥) → Refused (refusal_at k a) ≡ verify_code code layout
+  pub fails : (k ≡ 0 → ⊥) → Err (refusal_at k a) ≡ verify_code code layout
   -- that check 14 is left
   pub passes : k ≡ 0 → Walked code layout (suc n) s
 
@@ -141,7 +137,7 @@ module _ {code : List ℕ} {layout : Layout} {n h k : ℕ} {a : ByteAddress} {be
     (halfword : h ≡ get_or code n 0)
     (values : state_of before ≡ values_at code n) (visited : Visited layout a (decode_of h) before after k) where
   -- the checks of the halfword are those of the instruction
-  checked : (x : Answer) → x ≡ first_no
+  checked : (x : Result ⊤ Refusal) → x ≡ first_no
       (halfword_checks (state_of before) layout a (eqb (suc n) (length code)) h (decode_of h))
       → first_no (checks_at code layout n) ≡ x
   unfolding decoded_at
@@ -154,7 +150,7 @@ module _ {code : List ℕ} {layout : Layout} {n h k : ℕ} {a : ByteAddress} {be
 
   pub decided : Decides code layout n a k (state_of after)
   decided =
-      let so_far : first_no (code_checks code layout n) ≡ answer.Pass = passed code layout n inside walked.passed in
+      let so_far : first_no (code_checks code layout n) ≡ (Ok tt) = passed code layout n inside walked.passed in
       let last : Bool = eqb (suc n) (length code) in
       record {
         fails =

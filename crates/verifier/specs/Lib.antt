@@ -1,6 +1,6 @@
 pub mod Words
 pub mod Position
-pub mod Numbers
+pub mod Found
 pub mod Visit
 pub mod Verify
 pub mod Progress

@@ -1,9 +1,8 @@
 -- The blocks of a code, one after the other ("Image blocks"). Only the contracts of private functions speak of it.
-use Rattle.std.specs.Prelude.{cond, List, ◌≡◌, ℕ, ◌+◌, ◌-◌, ◌%◌, ◌<◌, ltb, length}
+use Rattle.std.specs.Prelude.{cond, List, ◌≡◌, ℕ, ◌+◌, ◌-◌, ◌%◌, ◌<◌, ltb, length, Ok}
 use Rattle.image.specs.Check.{check_of}
 use Rattle.image.specs.Code.{code_position, code_of}
 use Rattle.image.specs.Format.{block_code}
-use Rattle.image.specs.declared.checker.Checked.TheVariants.{Valid}
 use Rattle.image.specs.declared.checker.Layout.{Layout}
 
 -- a block starts with instruction i, which stands at byte p of the file
@@ -12,7 +11,7 @@ BlockAt i p = (i % block_code ≡ 0) × (p ≡ code_position i)
 
 -- such a block of an accepted file's code
 pub record BlockOf (file : List ℕ) (layout : Layout) (i p : ℕ) : Type 0 where
-  pub accepted : check_of file ≡ Valid layout
+  pub accepted : check_of file ≡ Ok layout
   pub inside : i < length (code_of file)
   pub at : BlockAt i p
 

@@ -1,17 +1,12 @@
 -- The verifier's walk over a code, and its verdict on a file ("Facts the judge carries", "The questions").
-use Rattle.std.specs.Prelude.{cond, List, ℕ, zero, suc, eqb, length, get_or}
+use Rattle.std.specs.Prelude.{cond, List, ℕ, zero, suc, eqb, length, get_or, Result, Ok, Err, ⊤}
 use Rattle.image.specs.Check.{Asked, first_no, rows_below, check_of}
 use Rattle.image.specs.Code.{code_of}
-use Rattle.image.specs.declared.answer.Answer.{Answer}
-use Rattle.image.specs.declared.answer.Answer.TheVariants as answer
-use Rattle.image.specs.declared.checker.Checked.{Checked}
-use Rattle.image.specs.declared.checker.Checked.TheVariants as checked
 use Rattle.image.specs.declared.checker.Layout.{Layout}
 use Rattle.targets.specs.Targets.{address_of, decoded_at, targeted}
 use Rattle.checks.specs.State.{State, unknown_state, standing_at, after_of}
 use Rattle.checks.specs.Questions.{halfword_checks}
-use Rattle.verifier.specs.declared.verifier.Verdict.{Verdict}
-use Rattle.verifier.specs.declared.verifier.Verdict.TheVariants.{Fit, Refused}
+use Rattle.refusals.specs.declared.refusal.Refusal.{Refusal}
 
 -- the state in which instruction i is checked, from the state that falls into it: at a branch target nothing is
 -- known but the address
@@ -38,18 +33,18 @@ checks_at code layout i =
 abbrev pub code_checks : List ℕ → Layout → ℕ → List Asked
 code_checks code layout = rows_below (checks_at code layout)
 
-abbrev pub verdict_as : Layout → Answer → Verdict
-verdict_as layout answer.Pass = Fit layout
-verdict_as layout (answer.Refused r) = Refused r
+abbrev pub verdict_as : Layout → Result ⊤ Refusal → Result Layout Refusal
+verdict_as layout (Ok tt) = Ok layout
+verdict_as layout (Err r) = Err r
 
 -- checks 9 to 14 of a code with a layout; a pass answers the layout: c, w and l
-unfoldable pub verify_code : List ℕ → Layout → Verdict
+unfoldable pub verify_code : List ℕ → Layout → Result Layout Refusal
 verify_code code layout = verdict_as layout (first_no (code_checks code layout (length code)))
 
-abbrev pub verify_checked : List ℕ → Checked → Verdict
-verify_checked file (checked.Valid layout) = verify_code (code_of file) layout
-verify_checked file (checked.Refused r) = Refused r
+abbrev pub verify_checked : List ℕ → Result Layout Refusal → Result Layout Refusal
+verify_checked file (Ok layout) = verify_code (code_of file) layout
+verify_checked file (Err r) = Err r
 
 -- checks 2 to 8 of a file, then 9 to 14 of its code with the layout that those gave
-unfoldable pub verify_of : List ℕ → Verdict
+unfoldable pub verify_of : List ℕ → Result Layout Refusal
 verify_of file = verify_checked file (check_of file)

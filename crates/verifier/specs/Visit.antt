@@ -1,14 +1,16 @@
 -- What a visit to a halfword gives. Only the contracts of private functions speak of it.
-use Rattle.std.specs.Prelude.{List, ◌≡◌, ℕ}
+use Rattle.std.specs.Prelude.{List, ◌≡◌, ℕ, Option, Result, ⊤}
 use Rattle.units.specs.declared.address.ByteAddress.{ByteAddress}
-use Rattle.isa.specs.declared.decoder.Decoded.{Decoded}
 use Rattle.image.specs.declared.checker.Layout.{Layout}
 use Rattle.checks.specs.State.{after_of}
-use Rattle.verifier.specs.Numbers.{number_of}
+use Rattle.refusals.specs.declared.check.Check.{Check}
+use Rattle.verifier.specs.Found.{found_in}
 use Rattle.verifier.specs.Words.{state_of}
+use Rattle.isa.specs.declared.instruction.Instruction.{Instruction}
 
 -- the halfword at an address, decoded as d, has been visited: r is the first of checks 9 to 13 that fails in the
--- state before, or 0, and the state after is what it leaves; both states are held in words
-pub record Visited (layout : Layout) (a : ByteAddress) (d : Decoded) (before after : List ℕ) (r : ℕ) : Type 0 where
-  pub number : r ≡ number_of (state_of before) layout a d
+-- state before, if one does, and the state after is what it leaves; both states are held in words
+pub record Visited (layout : Layout) (a : ByteAddress) (d : Option Instruction) (before after : List ℕ) (r : Result ⊤ Check)
+    : Type 0 where
+  pub found : r ≡ found_in (state_of before) layout a d
   pub state : state_of after ≡ after_of a d (state_of before)

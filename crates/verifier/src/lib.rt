@@ -10,4 +10,4 @@ mod state;
 mod verifier;
 mod visits;
 
-pub use verifier::{Verdict, verify};
+pub use verifier::verify;

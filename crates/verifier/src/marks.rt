@@ -1,5 +1,5 @@
 // The branch targets of a code, marked.
-ghost use Rattle.std.specs.Prelude.{◌≡◌, ℕ, ◌<◌, length};
+ghost use Rattle.std.specs.Prelude.{◌≡◌, ℕ, ◌<◌, length, Ok};
 ghost use Rattle.image.specs.Check.{check_of};
 ghost use Rattle.image.specs.Code.{code_of};
 ghost use Rattle.image.specs.Format.{most_code};
@@ -8,7 +8,7 @@ ghost use Rattle.targets.specs.Targets.{targeted, marked_at};
 ghost use Rattle.verifier.specs.Position.{BlockOf, block_end};
 
 use super::code::{FIRST_POSITION, block_end};
-use image::{BLOCK_BYTES, Checked, Layout};
+use image::{BLOCK_BYTES, Layout};
 use targets::mark_target;
 use units::{ByteAddress, InstructionIndex, halfword_at};
 
@@ -26,7 +26,7 @@ fn mark_block(
     ensures { MarkedBelow (code_of file.now)
         (block_end start.0 (length (code_of file.now))) marks.new }
 {
-    let count = units::instruction_index(ByteAddress(layout.code_bytes));
+    let count = InstructionIndex::from(ByteAddress(layout.code_bytes));
     let end = block_end(start, count);
     let mut i = start;
     let mut position = first;
@@ -42,12 +42,12 @@ fn mark_block(
 // where nothing is marked yet: then bit j is set exactly when some branch of the
 // code goes to j. The marks are borrowed, since an answer of 2 KB would be copied.
 pub(crate) fn mark_targets(file: &[u8], layout: Layout, marks: &mut [u64; 249])
-    requires file_value { check_of file.now ≡ Checked.Valid layout }
+    requires file_value { check_of file.now ≡ Ok layout }
     requires unmarked { Unmarked marks.old }
     ensures { (j : ℕ) → j < most_code
         → marked_at marks.new j ≡ targeted (code_of file.now) j }
 {
-    let count = units::instruction_index(ByteAddress(layout.code_bytes));
+    let count = InstructionIndex::from(ByteAddress(layout.code_bytes));
     let mut i = InstructionIndex(0);
     let mut position = FIRST_POSITION;
     while i.0 < count.0 {

@@ -1,6 +1,5 @@
 // The walk over a code, and the verdict on a file.
-ghost use Rattle.std.specs.Prelude.{cond, ◌≡◌, ◌<◌, length};
-ghost use Rattle.refusals.specs.Refusal.{refusal_at};
+ghost use Rattle.std.specs.Prelude.{cond, ◌≡◌, ◌<◌, length, Ok};
 ghost use Rattle.units.specs.Address.{byte_address_of};
 ghost use Rattle.image.specs.Check.{check_of};
 ghost use Rattle.image.specs.Code.{code_of};
@@ -17,27 +16,10 @@ use super::marks::mark_targets;
 use super::state::{REGISTERS, set_value, word_of};
 use super::visits::visit;
 use checks::{PC, check_last};
-use image::{Answer, BLOCK_BYTES, Checked, Layout};
-use refusals::{Place, Refusal};
+use image::{BLOCK_BYTES, Layout};
+use refusals::Refusal;
 use targets::is_marked;
 use units::{ByteAddress, InstructionIndex, halfword_at};
-
-// The answer to a file: its layout, or the first check that it fails.
-#[derive(Drop)]
-pub enum Verdict {
-    Fit(Layout),
-    Refused(Refusal),
-}
-
-// The refusal of the instruction at an address.
-fn refusal_at(number: u8, a: ByteAddress) -> Refusal
-    ensures { result ≡ refusal_at number a }
-{
-    Refusal {
-        number,
-        place: Place::Address(a),
-    }
-}
 
 // Makes of the state that falls into instruction `i` the one in which it is
 // checked: at a branch target nothing is known, and R15 is its own address.
@@ -50,7 +32,7 @@ fn arrive(state: &mut [u64; 16], marks: &[u64; 249], i: InstructionIndex)
     if is_marked(marks, i) {
         *state = [word_of(domain::unknown()); REGISTERS];
     }
-    let a = units::byte_address(i);
+    let a = ByteAddress::from(i);
     set_value(state, PC, domain::exactly(a.0));
 }
 
@@ -63,61 +45,56 @@ fn walk_block(
     state: &mut [u64; 16],
     start: InstructionIndex,
     first: usize,
-) -> Answer
+) -> Result<(), Refusal>
     requires { BlockAhead file.now layout marks.now state.old start.0 first }
     ensures { WalkedTo (code_of file.now) layout
         (block_end start.0 (length (code_of file.now))) (state_of state.new) result }
 {
-    let count = units::instruction_index(ByteAddress(layout.code_bytes));
+    let count = InstructionIndex::from(ByteAddress(layout.code_bytes));
     let end = block_end(start, count);
     let mut i = start;
     let mut position = first;
     while i.0 < end.0 {
         arrive(state, marks, i);
         let h = halfword_at(file, position);
-        let a = units::byte_address(i);
-        let no = visit(state, layout, a, h);
-        if no != 0 {
-            return Answer::Refused(refusal_at(no, a));
+        let a = ByteAddress::from(i);
+        if let Err(check) = visit(state, layout, a, h) {
+            return Err(Refusal::at(check, a));
         }
         position += 2;
         i = InstructionIndex(i.0 + 1);
     }
-    Answer::Pass
+    Ok(())
 }
 
 // The verdict on a code that passes every check but 14, which is about its last
 // instruction.
-fn check_end(file: &[u8], layout: Layout) -> Verdict
+fn check_end(file: &[u8], layout: Layout) -> Result<Layout, Refusal>
     requires { NoneAhead file.now layout }
     ensures { result ≡ verify_code (code_of file.now) layout }
 {
-    let count = units::instruction_index(ByteAddress(layout.code_bytes));
+    let count = InstructionIndex::from(ByteAddress(layout.code_bytes));
     let last = InstructionIndex(count.0 - 1);
-    let no = check_last(image::code_at(file, last));
-    if no != 0 {
-        return Verdict::Refused(refusal_at(no, units::byte_address(last)));
+    if let Err(check) = check_last(image::code_at(file, last)) {
+        return Err(Refusal::at(check, ByteAddress::from(last)));
     }
-    Verdict::Fit(layout)
+    Ok(layout)
 }
 
 // Checks 9 to 14 of the code of an accepted file, lowest address first. `state`
 // holds the values that fall into instruction `i`, unknown at address 0.
-fn walk(file: &[u8], layout: Layout) -> Verdict
-    requires { check_of file.now ≡ Checked.Valid layout }
+fn walk(file: &[u8], layout: Layout) -> Result<Layout, Refusal>
+    requires { check_of file.now ≡ Ok layout }
     ensures { result ≡ verify_code (code_of file.now) layout }
 {
-    let count = units::instruction_index(ByteAddress(layout.code_bytes));
+    let count = InstructionIndex::from(ByteAddress(layout.code_bytes));
     let mut marks = [0u64; 249];
     mark_targets(file, layout, &mut marks);
     let mut state = [word_of(domain::unknown()); REGISTERS];
     let mut i = InstructionIndex(0);
     let mut position = FIRST_POSITION;
     while i.0 < count.0 {
-        let answer = walk_block(file, layout, &marks, &mut state, i, position);
-        if let Answer::Refused(refusal) = answer {
-            return Verdict::Refused(refusal);
-        }
+        walk_block(file, layout, &marks, &mut state, i, position)?;
         position += BLOCK_BYTES;
         i = block_end(i, count);
     }
@@ -128,11 +105,9 @@ fn walk(file: &[u8], layout: Layout) -> Verdict
 // and l; a refusal the first check that failed, and where: for checks 9 to 14
 // the byte address of the instruction.
 #[tactic(auto, unfolding(crate::specs::Verify::verify_of))]
-pub fn verify(file: &[u8]) -> Verdict
+pub fn verify(file: &[u8]) -> Result<Layout, Refusal>
     ensures { result ≡ verify_of file.now }
 {
-    match image::check(file) {
-        Checked::Refused(refusal) => Verdict::Refused(refusal),
-        Checked::Valid(layout) => walk(file, layout),
-    }
+    let layout = image::check(file)?;
+    walk(file, layout)
 }

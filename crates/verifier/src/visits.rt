@@ -3,7 +3,7 @@
 // two would go through memory. Branches, operations on registers, loads and
 // stores are told by tests: a processor foresees a test better than one way more
 // out of a table.
-ghost use Rattle.std.specs.Prelude.{List, ◌≡◌, ℕ, length, set};
+ghost use Rattle.std.specs.Prelude.{List, ◌≡◌, ℕ, length, set, None};
 ghost use Rattle.units.specs.Address.{pc_sum};
 ghost use Rattle.units.specs.Field.{field};
 ghost use Rattle.isa.specs.Decode.{halt_of, alu_of, high_of, registers_of, memory_of, decode_of};
@@ -17,21 +17,23 @@ use super::state::{set_value, value_at};
 use checks::{check_byte, check_halfword, check_target, check_write};
 use domain::Value;
 use image::Layout;
-use targets::{Target, jump};
+use refusals::Check;
+use targets::jump;
 use units::ByteAddress;
-
-// Check 9 of a halfword that is no instruction.
-const UNDEFINED: u8 = 9;
 
 // The top three bits of operations on registers, and of loads and stores.
 const REGISTER_FORMAT: u8 = 2;
 
 const MEMORY_FORMAT: u8 = 3;
 
-fn visit_halt(h: u16) -> u8
+fn visit_halt(h: u16) -> Result<(), Check>
     ensures { (layout : Layout) (a : ByteAddress) (ws : List ℕ) → Visited layout a (halt_of h) ws ws result }
 {
-    if h < 256 { 0 } else { UNDEFINED }
+    if h < 256 {
+        Ok(())
+    } else {
+        Err(Check::Defined)
+    }
 }
 
 // MOV of an immediate.
@@ -43,7 +45,7 @@ fn move_imm(state: &mut [u64; 16], h: u16)
     set_value(state, units::bits(h, 8, 3), domain::exactly(imm));
 }
 
-fn visit_alu(state: &mut [u64; 16], h: u16) -> u8
+fn visit_alu(state: &mut [u64; 16], h: u16) -> Result<(), Check>
     requires { length state.old ≡ register_count }
     ensures { (layout : Layout) (a : ByteAddress)
         → Visited layout a (alu_of h) state.old state.new result }
@@ -54,44 +56,41 @@ fn visit_alu(state: &mut [u64; 16], h: u16) -> u8
     match units::bits(h, 6, 4) {
         0 => {
             set_value(state, rd, domain::and(d, s));
-            0
+            Ok(())
         }
         1 => {
             set_value(state, rd, domain::eor(d, s));
-            0
+            Ok(())
         }
         2 => {
             set_value(state, rd, domain::asr(d));
-            0
+            Ok(())
         }
-        3 => 0,
+        3 => Ok(()),
         4 => {
             set_value(state, rd, domain::neg(s));
-            0
+            Ok(())
         }
-        5 => 0,
-        _ => UNDEFINED,
+        5 => Ok(()),
+        _ => Err(Check::Defined),
     }
 }
 
 // CMP of two registers of which one is high: bits 9 to 6 are 01 with H1, H2 or
 // both behind it. With two low registers, or with bit 9 set, it is no instruction.
-fn visit_compare(h: u16) -> u8
+fn visit_compare(h: u16) -> Result<(), Check>
     requires { field h 8 1 ≡ 1 }
     ensures { (layout : Layout) (a : ByteAddress) (ws : List ℕ) → Visited layout a (high_of h) ws ws result }
 {
     let operation = units::bits(h, 6, 4);
-    if operation < 5 {
-        return UNDEFINED;
+    if operation < 5 || operation > 7 {
+        return Err(Check::Defined);
     }
-    if operation > 7 {
-        return UNDEFINED;
-    }
-    0
+    Ok(())
 }
 
 // ADD, MOV and CMP of any registers.
-fn visit_high(state: &mut [u64; 16], h: u16) -> u8
+fn visit_high(state: &mut [u64; 16], h: u16) -> Result<(), Check>
     requires { length state.old ≡ register_count }
     ensures { (layout : Layout) (a : ByteAddress)
         → Visited layout a (high_of h) state.old state.new result }
@@ -111,7 +110,7 @@ fn visit_high(state: &mut [u64; 16], h: u16) -> u8
 }
 
 // The operations on registers, in two formats.
-fn visit_registers(state: &mut [u64; 16], h: u16) -> u8
+fn visit_registers(state: &mut [u64; 16], h: u16) -> Result<(), Check>
     requires { length state.old ≡ register_count }
     ensures { (layout : Layout) (a : ByteAddress)
         → Visited layout a (registers_of h) state.old state.new result }
@@ -119,7 +118,7 @@ fn visit_registers(state: &mut [u64; 16], h: u16) -> u8
     match units::bits(h, 10, 3) {
         0 => visit_alu(state, h),
         1 => visit_high(state, h),
-        _ => UNDEFINED,
+        _ => Err(Check::Defined),
     }
 }
 
@@ -135,40 +134,40 @@ fn add_pc(state: &mut [u64; 16], a: ByteAddress, h: u16)
     ensures { state_of state.new
         ≡ set (state_of state.old) (field h 8 3) (exactly_of (pc_sum a (field h 0 8))) }
 {
-    let sum = units::pc_sum(a, units::bits(h, 0, 8));
+    let sum = a.pc_sum(units::bits(h, 0, 8));
     set_value(state, units::bits(h, 8, 3), domain::exactly(sum));
 }
 
 // STR and LDR, which bit 11 tells apart. A store leaves every value as it is.
-fn visit_halfword(state: &mut [u64; 16], layout: Layout, h: u16) -> u8
+fn visit_halfword(state: &mut [u64; 16], layout: Layout, h: u16) -> Result<(), Check>
     requires { (length state.old ≡ register_count) × (field h 12 1 ≡ 0) }
     ensures { (a : ByteAddress) → Visited layout a (memory_of h) state.old state.new result }
 {
     let base = value_at(state, units::bits(h, 3, 3));
-    let no = check_halfword(base, layout, h);
+    let found = check_halfword(base, layout, h);
     if units::bits(h, 11, 1) == 0 {
-        return no;
+        return found;
     }
     load(state, h, domain::unknown());
-    no
+    found
 }
 
 // STRB and LDRB, likewise.
-fn visit_byte(state: &mut [u64; 16], layout: Layout, h: u16) -> u8
+fn visit_byte(state: &mut [u64; 16], layout: Layout, h: u16) -> Result<(), Check>
     requires { (length state.old ≡ register_count) × (field h 12 1 ≡ 1) }
     ensures { (a : ByteAddress) → Visited layout a (memory_of h) state.old state.new result }
 {
     let base = value_at(state, units::bits(h, 3, 3));
-    let no = check_byte(base, layout, h);
+    let found = check_byte(base, layout, h);
     if units::bits(h, 11, 1) == 0 {
-        return no;
+        return found;
     }
     load(state, h, domain::byte());
-    no
+    found
 }
 
 // Loads and stores.
-fn visit_memory(state: &mut [u64; 16], layout: Layout, h: u16) -> u8
+fn visit_memory(state: &mut [u64; 16], layout: Layout, h: u16) -> Result<(), Check>
     requires { length state.old ≡ register_count }
     ensures { (a : ByteAddress) → Visited layout a (memory_of h) state.old state.new result }
 {
@@ -180,8 +179,8 @@ fn visit_memory(state: &mut [u64; 16], layout: Layout, h: u16) -> u8
 }
 
 // Checks 9 to 12 of a halfword that is no branch, and the state behind it.
-fn visit_straight(state: &mut [u64; 16], layout: Layout, a: ByteAddress, h: u16) -> u8
-    requires { (length state.old ≡ register_count) × (jump_at a (decode_of h) ≡ Target.Nowhere) }
+fn visit_straight(state: &mut [u64; 16], layout: Layout, a: ByteAddress, h: u16) -> Result<(), Check>
+    requires { (length state.old ≡ register_count) × (jump_at a (decode_of h) ≡ None) }
     ensures { Visited layout a (decode_of h) state.old state.new result }
 {
     if units::bits(h, 13, 3) == REGISTER_FORMAT {
@@ -194,25 +193,25 @@ fn visit_straight(state: &mut [u64; 16], layout: Layout, a: ByteAddress, h: u16)
         0 => visit_halt(h),
         4 => {
             move_imm(state, h);
-            0
+            Ok(())
         }
         // CMP of an immediate leaves every value as it is
-        5 => 0,
+        5 => Ok(()),
         20 => {
             add_pc(state, a, h);
-            0
+            Ok(())
         }
-        _ => UNDEFINED,
+        _ => Err(Check::Defined),
     }
 }
 
 // Checks 9 to 13 of the halfword at an address, and the state behind it, which a
 // branch leaves as it is.
-pub(crate) fn visit(state: &mut [u64; 16], layout: Layout, a: ByteAddress, h: u16) -> u8
+pub(crate) fn visit(state: &mut [u64; 16], layout: Layout, a: ByteAddress, h: u16) -> Result<(), Check>
     requires { length state.old ≡ register_count }
     ensures { Visited layout a (decode_of h) state.old state.new result }
 {
-    let Target::To(target) = jump(a, h) else {
+    let Some(target) = jump(a, h) else {
         return visit_straight(state, layout, a, h);
     };
     check_target(target, layout)

@@ -9,8 +9,6 @@ use lib.ListN.{length, get_or, set, length-set, get_or-replicate, get_or-eq_defa
 use lib.Seq.{get_or-set_same, get_or-set_other}
 use Rattle.units.specs.declared.address.ByteAddress.{ByteAddress}
 use Rattle.units.specs.Address.{pc_sum}
-use Rattle.isa.specs.declared.decoder.Decoded.{Decoded}
-use Rattle.isa.specs.declared.decoder.Decoded.TheVariants.{Defined, Undefined}
 use Rattle.isa.specs.declared.instruction.Instruction.{Instruction}
 use Rattle.isa.specs.declared.instruction.Instruction.TheVariants.{MovImm, CmpImm, And, Eor, Asr, Tst, Neg, Cmp}
 use Rattle.isa.specs.declared.instruction.Instruction.TheVariants.{AddHigh, CmpHigh, MovHigh, Str, Ldr, Strb, Ldrb}
@@ -26,6 +24,7 @@ use Rattle.checks.specs.State.{State, value, unknown_state, standing_at, transfe
 use Rattle.verifier.specs.Verify.{entering, values_at}
 use Rattle.verifier.proofs.Walk.{length_values}
 use Rattle.verifier_laws.specs.Claims.{LowBelowHigh, AddsPlainly}
+use Rattle.std.specs.Prelude.{Option, Some, None}
 
 -- of every register
 abbrev AllOrdered : State → Type 0
@@ -78,15 +77,15 @@ module _ (a : ByteAddress) (s : State) (all : AllOrdered s) where
 
 module _ (code : List ℕ) where
   -- the fields of an instruction of the code have no more than their bits
-  narrow : (i : ℕ) (instruction : Instruction) → decoded_at code i ≡ Defined instruction → Narrow instruction
+  narrow : (i : ℕ) (instruction : Instruction) → decoded_at code i ≡ Some instruction → Narrow instruction
   unfolding decoded_at
   narrow i instruction e = decoded_narrow (get_or code i 0) instruction (sym e)
 
-  after_ordered : (i : ℕ) (d : Decoded) (s : State) → decoded_at code i ≡ d → AllOrdered s
+  after_ordered : (i : ℕ) (d : Option Instruction) (s : State) → decoded_at code i ≡ d → AllOrdered s
       → AllOrdered (after_of (address_of i) d s)
-  after_ordered i (Defined instruction) s e all =
+  after_ordered i (Some instruction) s e all =
       transfer_ordered (address_of i) s all instruction (narrow i instruction e)
-  after_ordered i Undefined s e all = all
+  after_ordered i None s e all = all
 
   entering_ordered : (i : ℕ) → AllOrdered (entering code i)
   unfolding entering
@@ -104,7 +103,7 @@ unfolding entering
 adds_plainly code i rs rd e fits =
     let s : State = values_at code i in
     let inside : rd < length s = omega (arith, (narrow code i (AddHigh rs rd) e).1, length_values code i) in
-    ap (λ (d : Decoded). (value (after_of (address_of i) d (values_at code i)) rd).low) e
+    ap (λ (d : Option Instruction). (value (after_of (address_of i) d (values_at code i)) rd).low) e
     ∙ ap (λ (v : Value). v.low) (get_or-set_same (values_at code i) rd (add_of (value s rd) (value s rs)) unknown_of
     inside)
     ∙ add_low (value s rd) (value s rs) (low_below_high code i rd) (low_below_high code i rs) (omega arith)

@@ -11,17 +11,15 @@ use Rattle.units.specs.Address.{instruction_index_of, branch_target_of}
 use Rattle.units.specs.Field.{field}
 use Rattle.units.proofs.Cases.{clash}
 use Rattle.isa.specs.Decode.{decode_of}
-use Rattle.isa.specs.declared.decoder.Decoded.{Decoded}
-use Rattle.isa.specs.declared.decoder.Decoded.TheVariants.{Defined}
 use Rattle.isa.specs.declared.instruction.Instruction.{Instruction}
 use Rattle.targets.specs.Targets.{address_of, decoded_at, jump_at, lands_on, goes_to, targeted_below, targeted}
-use Rattle.targets.specs.declared.branch.Target.{Target}
-use Rattle.targets.specs.declared.branch.Target.TheVariants.{Nowhere}
 use Rattle.targets.proofs.Jumps.{is_branch, no_branch}
 use Rattle.checks.specs.State.{unknown_state, standing_at, transfer_of, after_of}
 use Rattle.verifier.specs.Verify.{entering, values_at}
 use Rattle.verifier_laws.specs.Passes.{Reached}
 use Rattle.verifier_laws.specs.Claims.{TargetsExactly, ForgetsAtTargets}
+use Rattle.std.specs.Prelude.{Option, Some, None}
+use Rattle.units.specs.declared.address.ByteAddress.{ByteAddress}
 
 module _ (code : List ℕ) (j : ℕ) where
   goes_below : (n k : ℕ) → k < n → goes_to code k j ≡ true → targeted_below code n j ≡ true
@@ -46,15 +44,15 @@ module _ (code : List ℕ) (j : ℕ) where
   goes_reached k h e =
       go (get_or code k 0) refl e (dec_le 208 (field (get_or code k 0) 8 8)) (dec_le (field (get_or code k 0) 8 8) 221)
     where
-      still : (t : Target) → t ≡ Nowhere → lands_on t j ≡ true → Reached code j
-      still t q e' = absurd (false≢true (sym (ap (λ (x : Target). lands_on x j) q) ∙ e'))
+      still : (t : Option ByteAddress) → t ≡ None → lands_on t j ≡ true → Reached code j
+      still t q e' = absurd (false≢true (sym (ap (λ (x : Option ByteAddress). lands_on x j) q) ∙ e'))
 
       go : (w : ℕ) → get_or code k 0 ≡ w → lands_on (jump_at (address_of k) (decode_of w)) j ≡ true
           → Dec (208 ≤ field w 8 8) → Dec (field w 8 8 ≤ 221) → Reached code j
       go w q e' (yes low) (yes high) =
           let d = is_branch w low high in
           let there : (instruction_index_of (branch_target_of (address_of k) (field w 0 8))).0 ≡ j
-          = eqb-true _ _ (sym (ap (λ (x : Decoded). lands_on (jump_at (address_of k) x) j) d) ∙ e') in
+          = eqb-true _ _ (sym (ap (λ (x : Option Instruction). lands_on (jump_at (address_of k) x) j) d) ∙ e') in
           record {
             branch = k;
             inside = omega arith;
@@ -91,14 +89,14 @@ module _ (code : List ℕ) where
   target_values j e = ap (λ (t : Bool). standing_at (address_of j) (cond t unknown_state (entering code j))) e
 
   -- elsewhere the state is what the instruction above left
-  next_values : (i : ℕ) (instruction : Instruction) → decoded_at code i ≡ Defined instruction
+  next_values : (i : ℕ) (instruction : Instruction) → decoded_at code i ≡ Some instruction
       → targeted code (suc i) ≡ false
       → values_at code (suc i) ≡ standing_at (address_of (suc i))
       (transfer_of (address_of i) instruction (values_at code i))
   unfolding entering
   next_values i instruction e q =
       ap (λ (t : Bool). standing_at (address_of (suc i)) (cond t unknown_state (entering code (suc i)))) q
-      ∙ ap (λ (d : Decoded). standing_at (address_of (suc i)) (after_of (address_of i) d (values_at code i))) e
+      ∙ ap (λ (d : Option Instruction). standing_at (address_of (suc i)) (after_of (address_of i) d (values_at code i))) e
 
   -- at address 0 nothing is known either
   first_values : values_at code 0 ≡ standing_at (address_of 0) unknown_state
@@ -111,7 +109,7 @@ module _ (code : List ℕ) where
       go false = refl
 
   -- where no branch goes
-  not_reached : (i : ℕ) (instruction : Instruction) → decoded_at code i ≡ Defined instruction
+  not_reached : (i : ℕ) (instruction : Instruction) → decoded_at code i ≡ Some instruction
       → (Reached code (suc i) → ⊥)
       → values_at code (suc i) ≡ standing_at (address_of (suc i))
       (transfer_of (address_of i) instruction (values_at code i))

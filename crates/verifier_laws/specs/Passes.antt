@@ -1,7 +1,6 @@
 -- What it is for an instruction to pass, and for one to be branched to.
-use Rattle.std.specs.Prelude.{true, List, ◌≡◌, ℕ, suc, ◌<◌, eqb, length, get_or}
+use Rattle.std.specs.Prelude.{true, List, ◌≡◌, ℕ, suc, ◌<◌, eqb, length, get_or, Some}
 use Rattle.units.specs.Address.{instruction_index_of, branch_target_of}
-use Rattle.isa.specs.declared.decoder.Decoded.TheVariants.{Defined}
 use Rattle.isa.specs.declared.instruction.Instruction.{Instruction}
 use Rattle.isa.specs.declared.instruction.Instruction.TheVariants.{Branch}
 use Rattle.image.specs.declared.checker.Layout.{Layout}
@@ -14,7 +13,7 @@ use Rattle.verifier.specs.Verify.{values_at}
 -- instruction i of a code with a layout gets a yes to checks 9 to 14, in the state before it
 pub record Passes (code : List ℕ) (layout : Layout) (i : ℕ) : Type 0 where
   pub instruction : Instruction
-  pub passes9 : decoded_at code i ≡ Defined instruction
+  pub passes9 : decoded_at code i ≡ Some instruction
   pub passes10 : check10 (value (values_at code i) (access_of instruction).base) layout (access_of instruction) ≡ true
   pub passes11 : check11 (value (values_at code i) (access_of instruction).base) (access_of instruction) ≡ true
   pub passes12 : check12 instruction ≡ true
@@ -27,5 +26,5 @@ pub record Reached (code : List ℕ) (j : ℕ) : Type 0 where
   pub inside : branch < length code
   pub condition : ℕ
   pub offset : ℕ
-  pub decoded : decoded_at code branch ≡ Defined (Branch condition offset)
+  pub decoded : decoded_at code branch ≡ Some (Branch condition offset)
   pub there : (instruction_index_of (branch_target_of (address_of branch) offset)).0 ≡ j

@@ -1,11 +1,9 @@
 -- Instructions as 32-bit words: the kind in the top byte, then the fields in their order. Kinds count from 1.
-use Rattle.std.specs.Prelude.{List, [], ◌∷◌, ℕ, ◌+◌, ◌*◌, ◌/◌, ◌%◌}
+use Rattle.std.specs.Prelude.{List, [], ◌∷◌, ℕ, ◌+◌, ◌*◌, ◌/◌, ◌%◌, Option, Some, None}
 use Rattle.isa.specs.declared.instruction.Instruction.{Instruction}
 use Rattle.isa.specs.declared.instruction.Instruction.TheVariants.{MovImm, CmpImm, And, Eor, Asr, Tst, Neg, Cmp}
 use Rattle.isa.specs.declared.instruction.Instruction.TheVariants.{AddHigh, CmpHigh, MovHigh, Str, Ldr, Strb, Ldrb}
 use Rattle.isa.specs.declared.instruction.Instruction.TheVariants.{AddPc, Branch, Halt}
-use Rattle.isa.specs.declared.decoder.Decoded.{Decoded}
-use Rattle.isa.specs.declared.decoder.Decoded.TheVariants.{Defined, Undefined}
 use Rattle.isa.specs.Decode.{entry}
 
 abbrev pub word : ℕ → ℕ → ℕ → ℕ → ℕ
@@ -32,35 +30,35 @@ word_of (Branch condition offset) = word 17 condition offset 0
 word_of (Halt note) = word 18 note 0 0
 
 -- a decoded halfword; 0 is undefined
-abbrev pub decoded_word : Decoded → ℕ
-decoded_word (Defined i) = word_of i
-decoded_word Undefined = 0
+abbrev pub decoded_word : Option Instruction → ℕ
+decoded_word (Some i) = word_of i
+decoded_word None = 0
 
 -- the instruction that a kind and three bytes stand for, by kind from 0; a byte that the kind has
 -- no field for says nothing
-abbrev pub kinds : ℕ → ℕ → ℕ → List Decoded
+abbrev pub kinds : ℕ → ℕ → ℕ → List (Option Instruction)
 kinds a b c =
-    Undefined
-    ∷ Defined (MovImm a b)
-    ∷ Defined (CmpImm a b)
-    ∷ Defined (And a b)
-    ∷ Defined (Eor a b)
-    ∷ Defined (Asr a b)
-    ∷ Defined (Tst a b)
-    ∷ Defined (Neg a b)
-    ∷ Defined (Cmp a b)
-    ∷ Defined (AddHigh a b)
-    ∷ Defined (CmpHigh a b)
-    ∷ Defined (MovHigh a b)
-    ∷ Defined (Str a b c)
-    ∷ Defined (Ldr a b c)
-    ∷ Defined (Strb a b c)
-    ∷ Defined (Ldrb a b c)
-    ∷ Defined (AddPc a b)
-    ∷ Defined (Branch a b)
-    ∷ Defined (Halt a)
+    None
+    ∷ Some (MovImm a b)
+    ∷ Some (CmpImm a b)
+    ∷ Some (And a b)
+    ∷ Some (Eor a b)
+    ∷ Some (Asr a b)
+    ∷ Some (Tst a b)
+    ∷ Some (Neg a b)
+    ∷ Some (Cmp a b)
+    ∷ Some (AddHigh a b)
+    ∷ Some (CmpHigh a b)
+    ∷ Some (MovHigh a b)
+    ∷ Some (Str a b c)
+    ∷ Some (Ldr a b c)
+    ∷ Some (Strb a b c)
+    ∷ Some (Ldrb a b c)
+    ∷ Some (AddPc a b)
+    ∷ Some (Branch a b)
+    ∷ Some (Halt a)
     ∷ []
 
 -- the instruction of a word
-abbrev pub instruction_of : ℕ → Decoded
+abbrev pub instruction_of : ℕ → Option Instruction
 instruction_of w = entry (kinds (w / 0x10000 % 256) (w / 0x100 % 256) (w % 256)) (w / 0x1000000)

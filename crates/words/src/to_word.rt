@@ -2,7 +2,7 @@
 ghost use Rattle.std.specs.Prelude.{◌≡◌, ◌<◌};
 ghost use Rattle.words.specs.Words.{word, word_of, decoded_word};
 
-use isa::{Decoded, Instruction};
+use isa::Instruction;
 
 fn pack(kind: u32, a: u8, b: u8, c: u8) -> u32
     requires { kind < 256 }
@@ -38,11 +38,11 @@ fn word_of(i: Instruction) -> u32
 }
 
 // What a halfword says, as a word; 0 where it is undefined.
-pub fn decoded_word(d: Decoded) -> u32
+pub fn decoded_word(d: Option<Instruction>) -> u32
     ensures { result ≡ decoded_word d }
 {
     match d {
-        Decoded::Defined(i) => word_of(i),
-        Decoded::Undefined => 0,
+        Some(i) => word_of(i),
+        None => 0,
     }
 }

@@ -5,7 +5,7 @@ use Rattle.image.proofs.checker.check_layout.Goals as goal
 
 pub returns-then-not-is_window : goal.returns-then-not-is_window
 unfolding first_no
-returns-then-not-is_window c = simp (c.refusal_of.ensures, told_no _ _ c.is_window.ensures (search))
+returns-then-not-is_window c = simp (c.new.ensures, told_no _ _ c.is_window.ensures (search))
 
 pub returns : goal.returns
 unfolding first_no

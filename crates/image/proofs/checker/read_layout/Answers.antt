@@ -14,6 +14,6 @@ pub returns : goal.returns
 returns c =
     let few = last_used_most c.args.file.now c.args.blocks _ _ c.requires.0 c.requires.1 c.requires.3
     c.block_part-last.ensures.0 c.field-used.ensures in
-    let end : c.byte_address-end.result.0 ≡ 2 * (249 * (c.args.blocks - 1) + c.field-used.result) =
-    ap (λ (a : ByteAddress). a.0) c.byte_address-end.ensures ∙ omega arith in
+    let end : c.from-end.result.0 ≡ 2 * (249 * (c.args.blocks - 1) + c.field-used.result) =
+    ap (λ (a : ByteAddress). a.0) c.from-end.ensures ∙ omega arith in
     search layout_is

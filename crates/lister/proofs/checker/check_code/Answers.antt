@@ -17,7 +17,7 @@ loop-k-init c = (
 pub returns-then-no-ne0 : goal.returns-then-no-ne0
 returns-then-no-ne0 c = record {
   is =
-      turn_refused c.args.code.now c.loop-k.k _ _ _ _ c.loop-k.invariant.1 c.byte_address-a.ensures
+      turn_refused c.args.code.now c.loop-k.k _ _ _ _ c.loop-k.invariant.1 c.from-a.ensures
       c.layout_for-layout.ensures refl c.check_halfword-no.ensures _ c.refusal_at.ensures c.if-no-ne0.true
       c.loop-k-test.true;
   marked = tt;
@@ -26,7 +26,7 @@ returns-then-no-ne0 c = record {
 pub loop-k-preserved : goal.loop-k-preserved
 loop-k-preserved c = (
   omega arith,
-  turn_passed c.args.code.now c.loop-k.k _ _ _ _ c.loop-k.invariant.1 c.byte_address-a.ensures
+  turn_passed c.args.code.now c.loop-k.k _ _ _ _ c.loop-k.invariant.1 c.from-a.ensures
       c.layout_for-layout.ensures refl c.check_halfword-no.ensures c.if-no-ne0.false,
   rw add-one (mark_next refl c.mark_target.ensures c.loop-k.invariant.2),
 )

@@ -7,7 +7,7 @@ use Rattle.lister.proofs.lister.write_listing.Goals as goal
 pub returns-then-not-has_room : goal.returns-then-not-has_room
 returns-then-not-has_room c =
     refused _ _
-    (no_room _ c.args.out.now _ c.has_room.ensures (ap not c.if-not-has_room.true) c.refusal_of.ensures)
+    (no_room _ c.args.out.now _ c.has_room.ensures (ap not c.if-not-has_room.true) c.new.ensures)
 
 pub returns : goal.returns
 returns c =

@@ -9,7 +9,7 @@ loop-i-init c =
     record {
       memory = block_none _ _ _;
       small = search rules;
-      to = ap (λ (x : ByteAddress). x.0) c.byte_address-first.ensures ∙ omega arith;
+      to = ap (λ (x : ByteAddress). x.0) c.from-first.ensures ∙ omega arith;
     }
 
 pub loop-i-preserved : goal.loop-i-preserved
@@ -19,7 +19,7 @@ loop-i-preserved c =
     record {
       memory =
           block_more a.file.now a.memory.now a.k at.memory c.put_halfword.new.bytes at.i a.n
-          c.halfword_at-h.result c.byte_address-first.result.0 (search rules) (omega arith) (omega arith)
+          c.halfword_at-h.result c.from-first.result.0 (search rules) (omega arith) (omega arith)
           at.invariant.to at.invariant.memory c.halfword_at-h.ensures c.put_halfword.ensures;
       small = omega arith;
       to = at.invariant.to;

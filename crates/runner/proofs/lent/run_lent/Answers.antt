@@ -7,7 +7,7 @@ use Rattle.runner.proofs.lent.run_lent.Goals as goal
 
 pub returns-then-memory-ne-MEMORY_BYTES : goal.returns-then-memory-ne-MEMORY_BYTES
 returns-then-memory-ne-MEMORY_BYTES c =
-    let ran = run_refused _ _ _ _ _ c.if-memory-ne-MEMORY_BYTES.true c.refusal_of.ensures in
+    let ran = run_refused _ _ _ _ _ c.if-memory-ne-MEMORY_BYTES.true c.new.ensures in
     record { count_after = ran; log_after = refused_told _ _ _ c.args.log.now _ refl ran }
 
 pub loop-count-init : goal.loop-count-init

@@ -7,21 +7,21 @@ use Rattle.verifier.proofs.Position.{within_next}
 use Rattle.verifier.proofs.marks.mark_block.Goals as goal
 
 pub block_end-end-requires : goal.block_end-end-requires
-block_end-end-requires c = some_left c.requires.block_of c.instruction_index-count.ensures
+block_end-end-requires c = some_left c.requires.block_of c.from-count.ensures
 
 pub loop-i-init : goal.loop-i-init
 loop-i-init c =
-    let whole = whole_block c.requires.block_of c.instruction_index-count.ensures c.block_end-end.ensures in
+    let whole = whole_block c.requires.block_of c.from-count.ensures c.block_end-end.ensures in
     record { place = within_first whole; marked = c.requires.marked_below }
 
 pub halfword_at-h-requires : goal.halfword_at-h-requires
 halfword_at-h-requires c =
-    let whole = whole_block c.requires.block_of c.instruction_index-count.ensures c.block_end-end.ensures in
+    let whole = whole_block c.requires.block_of c.from-count.ensures c.block_end-end.ensures in
     position_inside (turn_within whole c.loop-i.invariant.place (search rules))
 
 pub loop-i-preserved : goal.loop-i-preserved
 loop-i-preserved c =
-    let whole = whole_block c.requires.block_of c.instruction_index-count.ensures c.block_end-end.ensures in
+    let whole = whole_block c.requires.block_of c.from-count.ensures c.block_end-end.ensures in
     let halfword =
     halfword_is (turn_within whole c.loop-i.invariant.place (search rules)) c.halfword_at-h.ensures in
     record {
@@ -31,5 +31,5 @@ loop-i-preserved c =
 
 pub returns : goal.returns
 returns c =
-    let whole = whole_block c.requires.block_of c.instruction_index-count.ensures c.block_end-end.ensures in
+    let whole = whole_block c.requires.block_of c.from-count.ensures c.block_end-end.ensures in
     rw (at_end whole c.loop-i.invariant.place (search rules)) at c.loop-i.invariant.marked

@@ -18,7 +18,7 @@ loop-i-init c =
 
 pub mark_block-requires-clause-block_of : goal.mark_block-requires-clause-block_of
 mark_block-requires-clause-block_of c =
-    let count = count_is _ _ c.requires.file_value _ c.instruction_index-count.ensures in
+    let count = count_is _ _ c.requires.file_value _ c.from-count.ensures in
     record {
       accepted = c.requires.file_value;
       inside = omega arith;
@@ -27,19 +27,19 @@ mark_block-requires-clause-block_of c =
 
 pub loop-i-preserved : goal.loop-i-preserved
 loop-i-preserved c =
-    let count = count_is _ _ c.requires.file_value _ c.instruction_index-count.ensures in
+    let count = count_is _ _ c.requires.file_value _ c.from-count.ensures in
     let block : BlockOf c.args.file.now c.args.layout c.loop-i.i.0 c.loop-i.position =
     record {
       accepted = c.requires.file_value;
       inside = omega arith;
       at = c.loop-i.invariant.place.at (search rules);
     } in
-    let next = next_block block c.instruction_index-count.ensures c.block_end-i.ensures in
+    let next = next_block block c.from-count.ensures c.block_end-i.ensures in
     record { place = next.between; marked = rw next.is_end at c.mark_block.ensures }
 
 pub returns : goal.returns
 unfolding targeted
 returns c j l =
-    let count = count_is _ _ c.requires.file_value _ c.instruction_index-count.ensures in
+    let count = count_is _ _ c.requires.file_value _ c.from-count.ensures in
     let at_end : c.loop-i.i.0 ≡ length (code_of c.args.file.now) = omega (arith, c.loop-i.invariant.place.to) in
     rw at_end at (c.loop-i.invariant.marked.marked j l)

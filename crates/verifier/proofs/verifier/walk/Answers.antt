@@ -21,7 +21,7 @@ loop-i-init c =
 
 pub walk_block-answer-requires : goal.walk_block-answer-requires
 walk_block-answer-requires c =
-    let count = count_is _ _ c.requires _ c.instruction_index-count.ensures in
+    let count = count_is _ _ c.requires _ c.from-count.ensures in
     record {
       block =
           record {
@@ -35,18 +35,18 @@ walk_block-answer-requires c =
 
 pub loop-i-preserved : goal.loop-i-preserved
 loop-i-preserved c =
-    let count = count_is _ _ c.requires _ c.instruction_index-count.ensures in
+    let count = count_is _ _ c.requires _ c.from-count.ensures in
     let block : BlockOf c.args.file.now c.args.layout c.loop-i.i.0 c.loop-i.position =
     record {
       accepted = c.requires;
       inside = omega arith;
       at = c.loop-i.invariant.place.at (search rules);
     } in
-    let next = next_block block c.instruction_index-count.ensures c.block_end-i.ensures in
+    let next = next_block block c.from-count.ensures c.block_end-i.ensures in
     record { place = next.between; walked = rw (c.in_default.is, next.is_end) at c.walk_block-answer.ensures }
 
 pub check_end-requires : goal.check_end-requires
 check_end-requires c =
-    let count = count_is _ _ c.requires _ c.instruction_index-count.ensures in
+    let count = count_is _ _ c.requires _ c.from-count.ensures in
     let at_end : c.loop-i.i.0 ≡ length (code_of c.args.file.now) = omega (arith, c.loop-i.invariant.place.to) in
     record { accepted = c.requires; passed = rw at_end at c.loop-i.invariant.walked.passed }
