@@ -1,4 +1,5 @@
 -- Sixteen registers stay sixteen and 16 bits wide, and memory keeps its size and its bytes.
+use Rattle.std.specs.Prelude.{Option, Some, None}
 use mathlib.Core.Bool.{cond}
 use mathlib.Core.List.{List, [], ◌∷◌}
 use mathlib.Core.Path.{◌≡◌, refl, sym, ◌∙◌}
@@ -31,7 +32,6 @@ use Rattle.runner.specs.Run.{state, next_state, state_after}
 use Rattle.isa_laws.proofs.Narrow.{Narrow, decoded_narrow}
 use Rattle.cpu_laws.specs.Sizes.{Row, Registers, Bytes, Sized, StatesSized}
 use Rattle.cpu.proofs.Endings.{cond_keeps}
-use Rattle.std.specs.Prelude.{Option, Some, None}
 
 -- a bound on every number stays where one below it is set
 set_below : (bound : ℕ) (xs : List ℕ) (i x : ℕ) → x < bound → ((j : ℕ) → get_or xs j 0 < bound)

@@ -1,5 +1,6 @@
 -- An instruction that completes changes only what it says it wrote, and what it does hangs on nothing of memory but
 -- what it says it read. A step adds the halfword that it fetches.
+use Rattle.std.specs.Prelude.{Option, Some, None}
 use mathlib.Core.Bool.{Bool, true, false, cond, false≢true}
 use mathlib.Core.List.{List}
 use mathlib.Core.Logic.{◌⊎◌, inl, inr, ⊎_elim}
@@ -34,7 +35,6 @@ use Rattle.cpu.proofs.Endings.{cond_keeps}
 use Rattle.cpu_laws.specs.Touched.{Touches, Reads, Writes, DataInMemory, Keeps, StepKeeps, Agrees, Alike}
 use Rattle.cpu_laws.specs.Touched.{StepAlike}
 use Rattle.cpu_laws.proofs.Lists.{set_here, set_alike}
-use Rattle.std.specs.Prelude.{Option, Some, None}
 
 -- a halfword is stored at a multiple of 4, or stop 20 comes first
 abbrev stored : Machine → ℕ → ℕ → Bool → List ℕ → StepResult
