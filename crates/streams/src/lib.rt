@@ -22,6 +22,15 @@ pub fn count_arguments(rt: &impl Env, most: usize) -> usize
     (0..most).take_while(|&i| is_given(rt, i + 1)).count()
 }
 
+// What `read` makes of argument `i`, if that has no more than 4096 bytes.
+pub fn read_argument<T, F: FnOnce(&[u8]) -> T>(rt: &impl Env, i: usize, read: F) -> Option<T>
+    requires { F.IsAlwaysCallable read }
+{
+    let mut text = [0u8; 4096];
+    let n = rt.arg(i, &mut text).ok()?;
+    Some(read(&text[..n]))
+}
+
 // Reads until the buffer is full or the input ends, and answers how many bytes that
 // put at the buffer's start. A loop, since `read_exact` doesn't say how many came before the end.
 pub fn read_full(rt: &impl Input, buffer: &mut [u8]) -> io::Result<usize>
@@ -37,6 +46,19 @@ pub fn read_full(rt: &impl Input, buffer: &mut [u8]) -> io::Result<usize>
         done += n;
     }
     Ok(done)
+}
+
+// ASCII text that is held in bytes, for printing.
+#[derive(Clone, Copy)]
+pub struct Ascii<'a>(pub &'a [u8]);
+
+impl fmt::Display for Ascii<'_> {
+    fn fmt<W: fmt::Write>(&self, f: &mut fmt::Formatter<W>) -> fmt::Result {
+        for &b in self.0 {
+            f.write_char(char::from(b))?;
+        }
+        Ok(())
+    }
 }
 
 // The system's words for an error, of which std also writes the number.
