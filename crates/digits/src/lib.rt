@@ -3,4 +3,4 @@
 
 mod values;
 
-pub use values::{LARGEST, NO_DIGIT, digit_of, grow, last_digit, with_digit};
+pub use values::{LARGEST, NumberError, digit_of, grow, halfword, last_digit, number, with_digit};
