@@ -15,7 +15,7 @@ use Rattle.cpu.specs.Machine.{with_note}
 use Rattle.cpu.specs.Step.{State, StepResult, low_byte}
 use Rattle.cpu.proofs.Endings.{halted_step}
 use Rattle.cpu.proofs.Notes.{keeping, step_note}
-use Rattle.runner.specs.declared.runs.RunOutcome.TheVariants as ended
+use Rattle.runner.specs.declared.ending.RunOutcome.TheVariants as ended
 use Rattle.runner.specs.Run.{RunResult, run_result, state, outcome_at, next_state, go_on, run_from, run_of}
 use Rattle.runner.specs.Lent.{note_left, unnoted_run}
 
@@ -41,7 +41,7 @@ turn_noted : (n : ℕ) (o : Outcome) (s : State) (count : ℕ) (rest rest' : Run
 turn_noted n Completed s count rest rest' set e = e refl
 turn_noted n Halted s count rest rest' set e =
     ap (λ (x : ℕ). run_result (with_note x s.machine) s.memory ended.Halted count) (set refl)
-turn_noted n (Stopped number) s count rest rest' set e = refl
+turn_noted n (Stopped why) s count rest rest' set e = refl
 turn_noted n (Refused q) s count rest rest' set e = refl
 
 from_noted : (n left count : ℕ) (s : State) → run_from left count (noting n s) ≡ renoted n (run_from left count s)

@@ -1,16 +1,16 @@
--- How a run ends, of how its last step did. Only the contracts of private functions speak of it.
+-- How a run ends, of how its last step did. Only the contracts of functions that are no entry points speak of it.
 use Rattle.std.specs.Prelude.{◌≡◌, ℕ}
 use Rattle.cpu.specs.declared.machine.Machine.{Machine}
 use Rattle.cpu.specs.declared.outcome.Outcome.{Outcome}
 use Rattle.cpu.specs.declared.outcome.Outcome.TheVariants.{Completed, Halted, Stopped, Refused}
-use Rattle.runner.specs.declared.runs.RunOutcome.{RunOutcome}
-use Rattle.runner.specs.declared.runs.RunOutcome.TheVariants as ended
+use Rattle.runner.specs.declared.ending.RunOutcome.{RunOutcome}
+use Rattle.runner.specs.declared.ending.RunOutcome.TheVariants as ended
 
 -- how a run ends after its last step: one that completed spent the budget
 abbrev pub as_run : Outcome → RunOutcome
 as_run Completed = ended.Spent
 as_run Halted = ended.Halted
-as_run (Stopped number) = ended.Stopped number
+as_run (Stopped why) = ended.Stopped why
 as_run (Refused r) = ended.Refused r
 
 -- a run's answer, a machine m, an ending o and a count n: m is the whole machine that was held, o tells how the last

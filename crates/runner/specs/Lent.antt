@@ -5,8 +5,8 @@ use Rattle.alu.specs.declared.status.Status.{Status}
 use Rattle.cpu.specs.Machine.{with_note}
 use Rattle.cpu.specs.Held.{bare}
 use Rattle.runner.specs.Run.{RunResult, run_result}
-use Rattle.runner.specs.declared.runs.RunOutcome.{RunOutcome}
-use Rattle.runner.specs.declared.runs.RunOutcome.TheVariants as ended
+use Rattle.runner.specs.declared.ending.RunOutcome.{RunOutcome}
+use Rattle.runner.specs.declared.ending.RunOutcome.TheVariants as ended
 use Rattle.alu.specs.Control.{flags_of}
 
 abbrev pub lent : List ℕ → Status → Machine
@@ -21,5 +21,5 @@ unnoted_run r = run_result (with_note 0 r.state.machine) r.state.memory r.outcom
 abbrev pub note_left : RunOutcome → ℕ → ℕ → ℕ
 note_left ended.Spent low before = before
 note_left ended.Halted low before = low
-note_left (ended.Stopped number) low before = before
+note_left (ended.Stopped why) low before = before
 note_left (ended.Refused r) low before = before

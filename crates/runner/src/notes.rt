@@ -4,17 +4,13 @@ ghost use Rattle.std.specs.Prelude.{◌≡◌};
 ghost use Rattle.units.specs.Bytes.{byte_at};
 ghost use Rattle.runner.specs.Lent.{note_left};
 
-use super::runs::RunOutcome;
+use super::ending::RunOutcome;
 
 // The byte at an address; 0 where memory has none.
 fn byte_at(memory: &[u8], a: u16) -> u8
     ensures { result ≡ byte_at memory.now a }
 {
-    if (a as usize) < memory.len() {
-        memory[a as usize]
-    } else {
-        0
-    }
+    memory.get(a as usize).copied().unwrap_or(0)
 }
 
 // The note after a run that ended so with the PC there, where it was another

@@ -1,11 +1,7 @@
 -- Before each turn what is left of the run is what was to be done at the start, and the log has what the last turn
--- touched (`Turn`). The measure is what is left of the budget.
-use Rattle.std.proofs.Common.{◌-◌}
+-- touched (`Turn`).
 use Rattle.runner.proofs.Loop.{Turn}
-use Rattle.runner.proofs.lent.run_lent.Given as goal
+use Rattle.runner.proofs.lent.run_within.Given as goal
 
 abbrev pub invariant-loop-count : goal.invariant-loop-count
 invariant-loop-count l = Turn l.budget l.fn.regs l.fn.memory l.initial.k l.regs l.memory l.log l.k l.count
-
-abbrev pub decreases-loop-count : goal.decreases-loop-count
-decreases-loop-count l = l.budget - l.count
