@@ -1,18 +1,15 @@
 -- Texts written one behind the other, and how long decimals are.
-use mathlib.Core.Bool.{Bool, true, false, cond}
-use mathlib.Core.List.{[], ◌∷◌, ◌++◌}
-use mathlib.Core.Path.{◌≡◌, refl, ap, ◌∙◌}
-use Prim.Native.Nat.{ℕ, suc, ◌+◌, ◌/◌, ◌%◌, ◌<◌, ◌≤◌}
-use native.Mathlib.Omega.{arith}
-use lib.Dec.{ltb}
-use lib.ListN.{length, set, length-append}
-use lib.Seq.{length-sets}
-use Rattle.std.proofs.Common.{length-set, take, drop}
-use Rattle.std.proofs.Math.Seq.{take-append_seam}
+use Rattle.std.proofs.Common.{Bool, true, false, cond, [], ◌∷◌, ◌++◌, append_assoc, ◌≡◌, refl, sym, ap, ◌∙◌}
+use Rattle.std.proofs.Common.{ℕ, suc, ◌+◌, ◌-◌, ◌/◌, ◌%◌, ◌<◌, ◌≤◌, arith, length, take, drop, drop-drop}
+use Rattle.std.proofs.Common.{length-append, length-set}
+use Rattle.std.proofs.Math.Seq.{length-sets, take-append_seam}
 use Rattle.std.proofs.lemmas.List.{length-take-le}
 use Rattle.std.proofs.lemmas.List.Edits.{sets-eq}
-use borrow.Rule.Slice.Mut.{set_vals}
 use borrow.Author.Tests.{lt-ltb, le-ltb}
+use borrow.Rule.Slice.Mut.{set_vals}
+use borrow.Rule.Slice.PartMut.{put_mid}
+use lib.Dec.{ltb}
+use lib.ListN.{set}
 use Rattle.text.specs.Text.{Text, digit, decimal, written}
 use Rattle.text.specs.Writes.{Fits, Grew}
 use Rattle.text.specs.declared.writer.Writer.{Writer}
@@ -33,6 +30,24 @@ pub grew_byte : (w : Writer) (c : ℕ)
     → Grew (c ∷ []) w (record { room = set_vals (set w.room.now w.at c) w.room; at = w.at + 1 })
 unfolding written
 grew_byte w c = record { same = refl; place = refl; room = refl; kept = length-set w.room.now w.at c }
+
+-- a word at once
+word_written : (at k : ℕ) (t room : Text) → at + length t ≤ length room → k ≡ length t
+    → put_mid at k room t ≡ written at t room
+unfolding written
+word_written at k t room fits long =
+    let behind : drop k (drop at room) ≡ drop (at + length t) room =
+    drop-drop k at room ∙ ap (λ (n : ℕ). drop n room) (omega arith) in
+    sym (append_assoc (take at room) t (drop k (drop at room))) ∙ ap (λ (rest : Text). take at room ++ t ++ rest) behind
+    ∙ sym (sets-eq t room at fits)
+
+pub grew_word : (w : Writer) (t part : Text) → Fits t w → part ≡ t
+    → Grew t w
+    (record { room = set_vals (put_mid w.at (w.at + length t - w.at) w.room.now part) w.room; at = w.at + length t })
+grew_word w t part fits is =
+    let now = ap (put_mid w.at (w.at + length t - w.at) w.room.now) is
+    ∙ word_written w.at (w.at + length t - w.at) t w.room.now fits (omega arith) in
+    record { same = refl; place = refl; room = now; kept = ap length now ∙ written_length w.at t w.room.now }
 
 -- nothing
 pub grew_none : (t : Text) (w : Writer) → t ≡ [] → Grew t w w

@@ -28,6 +28,16 @@ impl<'a> Writer<'a> {
         self.at += 1;
     }
 
+    // Writes the bytes of a word.
+    pub fn put_all(&mut self, word: &[u8])
+        requires { Fits word.now self.old }
+        ensures { Grew word.now self.old self.new }
+    {
+        let end = self.at + word.len();
+        self.room[self.at..end].copy_from_slice(word);
+        self.at = end;
+    }
+
     // Writes the digit of a power of ten, if the number is so large.
     fn put_digit(&mut self, n: u16, unit: u16)
         requires { Fits (digit n unit) self.old × (0 < unit) }
