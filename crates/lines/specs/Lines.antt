@@ -1,6 +1,7 @@
 -- The line of a verdict ("Bench table", the program), as ASCII codes: `fit C W L` or `refused N P`.
 use Rattle.std.specs.Prelude.{[], ◌∷◌, ◌++◌, ℕ, Result, Ok, Err}
 use Rattle.text.specs.Text.{Text, decimal}
+use Rattle.refusals.specs.Check.{check_number}
 use Rattle.refusals.specs.Refusal.{place_number}
 use Rattle.refusals.specs.declared.refusal.Refusal.{Refusal}
 use Rattle.image.specs.declared.checker.Layout.{Layout}
@@ -22,7 +23,7 @@ fit_text layout =
 abbrev pub refused_text : Refusal → Text
 refused_text r =
     (114 ∷ 101 ∷ 102 ∷ 117 ∷ 115 ∷ 101 ∷ 100 ∷ [])
-    ++ number_text r.number
+    ++ number_text (check_number r.check)
     ++ number_text (place_number r.place)
     ++ (10 ∷ [])
 

@@ -37,7 +37,7 @@ fn refused_line(r: Refusal) -> Line
 {
     let mut refused = Line::new();
     refused.put_all(b"refused");
-    put_number(&mut refused, r.number as u16);
+    put_number(&mut refused, u8::from(r.check) as u16);
     put_number(&mut refused, u16::from(r.place));
     refused.put(b'\n');
     refused

@@ -6,7 +6,7 @@ use Prim.Native.Char.{code}
 use Prim.Native.Nat.{ℕ, zero, suc, ◌+◌, ◌*◌, ◌/◌, ◌<◌, ◌≤◌}
 use native.Mathlib.Omega.{arith}
 use borrow.Author.Tests.{ne_eqb, ltb-true}
-use lib.Dec.{T, T_not, eqb, ltb}
+use lib.Dec.{eqb, eqb→eq, ltb}
 use lib.ListN.{length, get_or, length-append}
 use Rattle.std.proofs.Common.{Option, Some, None}
 use Rattle.units.proofs.Every as Every
@@ -81,8 +81,8 @@ branch_name c h =
     same_text _ _ (Every.at
     (λ k. is_same_text (get_or branch_names k []) (code "B" ∷ (condition_word k ++ quoted " "))) 14 tt c h)
 
-branch_four : (c : ℕ) → length (get_or branch_names c []) ≤ 4
-branch_four c = ?
+branch_four : (c : ℕ) → c < 14 → length (get_or branch_names c []) ≡ 4
+branch_four c h = eqb→eq _ _ (Every.at (λ k. eqb (length (get_or branch_names k [])) 4) 14 tt c h)
 
 -- how many labels an instruction can bring about
 abbrev pub jumps : Option ByteAddress → ℕ
@@ -261,7 +261,7 @@ module _ (a : ByteAddress) (h : ℕ) where
                 arith,
                 ap length is,
                 length-append (get_or branch_names c []) aim,
-                branch_four c,
+                branch_four c (ltb-true c 14 e),
                 last_sum address,
                 decimal_at_most address,
               );

@@ -6,9 +6,9 @@ use Prim.Native.Nat.{ℕ, ◌≤◌}
 use lib.Dec.{ltb}
 use lib.ListN.{length, get_or}
 use Rattle.std.proofs.Common.{Option, Some, None, slice_get}
-use Rattle.std.proofs.lemmas.Option.{slice_get_past}
+use Rattle.std.proofs.lemmas.Option.{slice_get_past, slice_get-get_or}
 use Rattle.text.specs.Text.{Text}
-use borrow.Author.Tests.{ltb-false}
+use borrow.Author.Tests.{ltb-true, ltb-false}
 use Rattle.isa.specs.Decode.{entry, only}
 use Rattle.isa.specs.declared.instruction.Instruction.TheVariants.{Branch}
 use Rattle.isa.proofs.Table.{no_arm}
@@ -30,5 +30,5 @@ pub branch_named : (v offset : ℕ) → slice_get branch_names v ≡ name_in (on
 branch_named v offset = go (ltb v 14) refl
   where
     go : (t : Bool) → ltb v 14 ≡ t → slice_get branch_names v ≡ name_in (only t (Some (Branch v offset)))
-    go true e = ?
+    go true e = slice_get-get_or branch_names v [] (ltb-true v 14 e)
     go false e = sym (name_past v (ltb-false v 14 e))
