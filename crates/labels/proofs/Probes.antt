@@ -6,36 +6,36 @@ use Prim.Native.Nat.{ℕ, zero, suc, ◌+◌, ◌*◌, ◌/◌, ◌%◌, ◌<◌
 use native.Mathlib.Nat.{mod-lt}
 use native.Mathlib.Omega.{arith}
 use lib.Dec.{eqb}
-use lib.ListN.{length, get_or, set, length-set}
+use lib.ListN.{length, length-set}
 use borrow.Author.Tests.{eq-eqb, ne_eqb, eqb-false}
-use Rattle.labels.specs.Table.{home, next_place, tries, probe_from, probe_of, entered, labels_after, lookup_of}
-use Rattle.labels.specs.declared.table.Labelled.TheVariants.{Defined, Undefined, Unknown}
+use Rattle.labels.specs.Table.{home, next_place, tries, probe_from, probe_of, name_at, entered, table_after}
+use Rattle.labels.specs.declared.table.Entry.{Entry}
 use Rattle.labels.specs.declared.table.Probed.{Probed}
 use Rattle.labels.specs.declared.table.Probed.TheVariants.{Here, Free, Crowded}
 
-pub probe_here : (places n at : ℕ) (names : List ℕ) (name : ℕ) → 0 < n → get_or names at 0 ≡ name
-    → probe_from places n at names name ≡ Here at
+pub probe_here : (places n at : ℕ) (table : List Entry) (name : ℕ) → 0 < n → name_at table at ≡ name
+    → probe_from places n at table name ≡ Here at
 unfolding probe_from
-probe_here places zero at names name h e = let z : ⊥ = omega arith in absurd z
-probe_here places (suc n) at names name h e = simp (eq-eqb (get_or names at 0) name e)
+probe_here places zero at table name h e = let z : ⊥ = omega arith in absurd z
+probe_here places (suc n) at table name h e = simp (eq-eqb (name_at table at) name e)
 
-pub probe_free : (places n at : ℕ) (names : List ℕ) (name : ℕ) → 0 < n → (get_or names at 0 ≡ name → ⊥)
-    → get_or names at 0 ≡ 0 → probe_from places n at names name ≡ Free at
+pub probe_free : (places n at : ℕ) (table : List Entry) (name : ℕ) → 0 < n → (name_at table at ≡ name → ⊥)
+    → name_at table at ≡ 0 → probe_from places n at table name ≡ Free at
 unfolding probe_from
-probe_free places zero at names name h f e = let z : ⊥ = omega arith in absurd z
-probe_free places (suc n) at names name h f e =
-    simp (ne_eqb (get_or names at 0) name f, eq-eqb (get_or names at 0) 0 e)
+probe_free places zero at table name h f e = let z : ⊥ = omega arith in absurd z
+probe_free places (suc n) at table name h f e =
+    simp (ne_eqb (name_at table at) name f, eq-eqb (name_at table at) 0 e)
 
-pub probe_next : (places n m at : ℕ) (names : List ℕ) (name : ℕ) → n ≡ suc m → (get_or names at 0 ≡ name → ⊥)
-    → (get_or names at 0 ≡ 0 → ⊥)
-    → probe_from places n at names name ≡ probe_from places m (next_place places at) names name
+pub probe_next : (places n m at : ℕ) (table : List Entry) (name : ℕ) → n ≡ suc m → (name_at table at ≡ name → ⊥)
+    → (name_at table at ≡ 0 → ⊥)
+    → probe_from places n at table name ≡ probe_from places m (next_place places at) table name
 unfolding probe_from
-probe_next places n m at names name h f g =
-    rw h (simp (ne_eqb (get_or names at 0) name f, ne_eqb (get_or names at 0) 0 g))
+probe_next places n m at table name h f g =
+    rw h (simp (ne_eqb (name_at table at) name f, ne_eqb (name_at table at) 0 g))
 
-pub probe_ends : (places n at : ℕ) (names : List ℕ) (name : ℕ) → n ≡ 0 → probe_from places n at names name ≡ Crowded
+pub probe_ends : (places n at : ℕ) (table : List Entry) (name : ℕ) → n ≡ 0 → probe_from places n at table name ≡ Crowded
 unfolding probe_from
-probe_ends places n at names name h = rw h
+probe_ends places n at table name h = rw h
 
 -- a probe stays in the table
 pub next_inside : (places at : ℕ) → at < places → next_place places at < places
@@ -50,16 +50,16 @@ Inside places (Here at) = at < places
 Inside places (Free at) = at < places
 Inside places Crowded = Unit {0}
 
-inside_from : (places n at : ℕ) (names : List ℕ) (name : ℕ) → at < places
-    → Inside places (probe_from places n at names name)
+inside_from : (places n at : ℕ) (table : List Entry) (name : ℕ) → at < places
+    → Inside places (probe_from places n at table name)
 unfolding probe_from
-inside_from places zero at names name h = tt
-inside_from places (suc n) at names name h =
-    go (eqb (get_or names at 0) name) (eqb (get_or names at 0) 0)
-    (inside_from places n (next_place places at) names name (next_inside places at h))
+inside_from places zero at table name h = tt
+inside_from places (suc n) at table name h =
+    go (eqb (name_at table at) name) (eqb (name_at table at) 0)
+    (inside_from places n (next_place places at) table name (next_inside places at h))
   where
-    go : (a b : Bool) → Inside places (probe_from places n (next_place places at) names name)
-        → Inside places (cond a (Here at) (cond b (Free at) (probe_from places n (next_place places at) names name)))
+    go : (a b : Bool) → Inside places (probe_from places n (next_place places at) table name)
+        → Inside places (cond a (Here at) (cond b (Free at) (probe_from places n (next_place places at) table name)))
     go true b i = h
     go false true i = h
     go false false i = i
@@ -68,52 +68,26 @@ pub home_inside : (places name : ℕ) → 0 < places → home places name < plac
 unfolding home
 home_inside places name h = mod-lt (name % 4294967291 * 2654435769 / 8589934592) h
 
-pub inside : (names : List ℕ) (name : ℕ) (p : Probed) → 0 < length names → p ≡ probe_of names name
-    → Inside (length names) p
+pub inside : (table : List Entry) (name : ℕ) (p : Probed) → 0 < length table → p ≡ probe_of table name
+    → Inside (length table) p
 unfolding probe_of
-inside names name p h e =
-    rw e (inside_from (length names) tries (home (length names) name) names name (home_inside (length names) name h))
+inside table name p h e =
+    rw e (inside_from (length table) tries (home (length table) name) table name (home_inside (length table) name h))
 
--- what each case of a probe leaves of a column
-pub entered_free : (names : List ℕ) (name at : ℕ) (column : List ℕ) (v : ℕ) (p : Probed) → p ≡ probe_of names name
-    → p ≡ Free at → set column at v ≡ labels_after names name column v
-entered_free names name at column v p e f = rw (← e, f) refl
+-- a free place, and a name's, are places of the table
+pub inside_free : (table : List Entry) (name at : ℕ) (p : Probed) → 0 < length table → p ≡ probe_of table name
+    → p ≡ Free at → at < length table
+inside_free table name at p h e f = subst (Inside (length table)) f (inside table name p h e)
 
-pub entered_here : (names : List ℕ) (name at : ℕ) (column : List ℕ) (v : ℕ) (p : Probed) → p ≡ probe_of names name
-    → p ≡ Here at → column ≡ labels_after names name column v
-entered_here names name at column v p e f = rw (← e, f) refl
+pub inside_here : (table : List Entry) (name at : ℕ) (p : Probed) → 0 < length table → p ≡ probe_of table name
+    → p ≡ Here at → at < length table
+inside_here table name at p h e f = subst (Inside (length table)) f (inside table name p h e)
 
-pub entered_crowded : (names : List ℕ) (name : ℕ) (column : List ℕ) (v : ℕ) (p : Probed) → p ≡ probe_of names name
-    → p ≡ Crowded → column ≡ labels_after names name column v
-entered_crowded names name column v p e f = rw (← e, f) refl
-
-pub inside_free : (names : List ℕ) (name at : ℕ) (p : Probed) → 0 < length names → p ≡ probe_of names name → p ≡ Free at
-    → at < length names
-inside_free names name at p h e f = subst (Inside (length names)) f (inside names name p h e)
-
-pub inside_here : (names : List ℕ) (name at : ℕ) (p : Probed) → 0 < length names → p ≡ probe_of names name → p ≡ Here at
-    → at < length names
-inside_here names name at p h e f = subst (Inside (length names)) f (inside names name p h e)
-
--- what each case of a probe tells
-pub told_here : (names : List ℕ) (name at : ℕ) (numbers : List ℕ) (p : Probed) → p ≡ probe_of names name
-    → p ≡ Here at → Defined (get_or numbers at 0) ≡ lookup_of names numbers name
-told_here names name at numbers p e f = rw (← e, f) refl
-
-pub told_free : (names : List ℕ) (name at : ℕ) (numbers : List ℕ) (p : Probed) → p ≡ probe_of names name
-    → p ≡ Free at → Undefined ≡ lookup_of names numbers name
-told_free names name at numbers p e f = rw (← e, f) refl
-
-pub told_crowded : (names : List ℕ) (name : ℕ) (numbers : List ℕ) (p : Probed) → p ≡ probe_of names name
-    → p ≡ Crowded → Unknown ≡ lookup_of names numbers name
-told_crowded names name numbers p e f = rw (← e, f) refl
-
--- a column keeps its length
-pub after_length : (names : List ℕ) (name : ℕ) (column : List ℕ) (v : ℕ)
-    → length (labels_after names name column v) ≡ length column
-after_length names name column v = go (probe_of names name)
+-- the table keeps its length
+pub after_length : (table : List Entry) (name number : ℕ) → length (table_after table name number) ≡ length table
+after_length table name number = go (probe_of table name)
   where
-    go : (p : Probed) → length (entered p column v) ≡ length column
+    go : (p : Probed) → length (entered p table name number) ≡ length table
     go (Here at) = refl
-    go (Free at) = length-set column at v
+    go (Free at) = length-set table at (record { name = name; number = number })
     go Crowded = refl

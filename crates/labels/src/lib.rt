@@ -3,4 +3,4 @@
 
 mod table;
 
-pub use table::{Labelled, Probed, define, lookup};
+pub use table::{Entry, FREE, Labelled, Probed, define, lookup};

@@ -1,15 +1,25 @@
 // A table of first definitions: a name's place follows from its number, and a
-// name that finds its place taken goes on to the next. 0 is no name, and marks a
-// free place. The table is as large as the columns that are lent.
+// name that finds its place taken goes on to the next. The table is as large as
+// the room that is lent.
 ghost use Rattle.std.specs.Prelude.{◌≡◌, ◌<◌, length};
-ghost use Rattle.labels.specs.Table.{home, next_place, probe_of, labels_after, lookup_of};
+ghost use Rattle.labels.specs.Table.{home, next_place, probe_of, table_after, lookup_of};
+
+// A name, and the number of the instruction that follows its first definition. 0
+// is no name, and marks a free place.
+#[derive(Clone, Copy)]
+pub struct Entry {
+    pub name: u64,
+    pub number: u64,
+}
+
+pub const FREE: Entry = Entry { name: 0, number: 0 };
 
 // How many places a name is looked for at.
 const TRIES: usize = 256;
 
 // Where a name stands, or the first free place on its way, or neither within the
 // tries.
-#[derive(Drop)]
+#[derive(Clone, Copy)]
 pub enum Probed {
     Here(usize),
     Free(usize),
@@ -19,7 +29,7 @@ pub enum Probed {
 // A name's definition: the number of the instruction that follows. `Undefined` is
 // told only where the table has them all; `Unknown` names are to be looked for in
 // the text.
-#[derive(Drop)]
+#[derive(Clone, Copy)]
 pub enum Labelled {
     Defined(u64),
     Undefined,
@@ -28,6 +38,7 @@ pub enum Labelled {
 
 // Where a name is looked for first. Names that differ in few letters get places
 // that are far apart.
+#[tactic(auto, unfolding(crate::specs::Table::home))]
 fn home_of(places: usize, name: u64) -> usize
     requires { 0 < places }
     ensures { result ≡ home places name }
@@ -44,54 +55,45 @@ fn next_place(places: usize, at: usize) -> usize
     if next == places { 0 } else { next }
 }
 
-fn probe(names: &[u64], name: u64) -> Probed
-    requires { 0 < length names.now }
-    ensures { result ≡ probe_of names.now name }
+fn probe(table: &[Entry], name: u64) -> Probed
+    requires { 0 < length table.now }
+    ensures { result ≡ probe_of table.now name }
 {
-    let mut at = home_of(names.len(), name);
-    let mut k = 0;
-    while k < TRIES {
-        let other = names[at];
+    let mut at = home_of(table.len(), name);
+    for _ in 0..TRIES {
+        let other = table[at].name;
         if other == name {
             return Probed::Here(at);
         }
         if other == 0 {
             return Probed::Free(at);
         }
-        at = next_place(names.len(), at);
-        k += 1;
+        at = next_place(table.len(), at);
     }
     Probed::Crowded
 }
 
 // Enters a definition, unless its name has one or the places of the name are
 // taken, and answers where the name was looked for.
-pub fn define(names: &mut [u64], numbers: &mut [u64], name: u64, number: u64) -> Probed
-    requires { (0 < length names.old) × (length numbers.old ≡ length names.old) }
-    ensures { (result ≡ probe_of names.old name)
-        × (names.new ≡ labels_after names.old name names.old name)
-        × (numbers.new ≡ labels_after names.old name numbers.old number) }
+pub fn define(table: &mut [Entry], name: u64, number: u64) -> Probed
+    requires { 0 < length table.old }
+    ensures { (result ≡ probe_of table.old name)
+        × (table.new ≡ table_after table.old name number) }
 {
-    let found = probe(names, name);
-    match found {
-        Probed::Free(at) => {
-            names[at] = name;
-            numbers[at] = number;
-        }
-        Probed::Here(_) => {}
-        Probed::Crowded => {}
+    let found = probe(table, name);
+    if let Probed::Free(at) = found {
+        table[at] = Entry { name, number };
     }
     found
 }
 
 // A name's first definition.
-pub fn lookup(names: &[u64], numbers: &[u64], name: u64) -> Labelled
-    requires { (0 < length names.now) × (length numbers.now ≡ length names.now) }
-    ensures { result ≡ lookup_of names.now numbers.now name }
+pub fn lookup(table: &[Entry], name: u64) -> Labelled
+    requires { 0 < length table.now }
+    ensures { result ≡ lookup_of table.now name }
 {
-    let found = probe(names, name);
-    match found {
-        Probed::Here(at) => Labelled::Defined(numbers[at]),
+    match probe(table, name) {
+        Probed::Here(at) => Labelled::Defined(table[at].number),
         Probed::Free(_) => Labelled::Undefined,
         Probed::Crowded => Labelled::Unknown,
     }

@@ -14,20 +14,20 @@ use Rattle.text.proofs.Scans.{rest}
 use Rattle.text.proofs.Words.{and_left, and_right}
 use Rattle.units.proofs.Cases.{clash}
 use Rattle.syntax.specs.Syntax.{condition_value, slot_value, place, conditions}
-use Rattle.syntax.specs.Slots.{slot_as, letters, number_among, letters_value}
-use Rattle.syntax.specs.Spots.{Spotted}
-use Rattle.syntax.proofs.Digits.{word_further, word_begun}
-use Rattle.syntax.proofs.Steps.{spotted_none, spotted_word, byte_inside}
+use Rattle.syntax.specs.Slots.{number_as, letters, number_among, letters_value}
+use Rattle.syntax.specs.Spots.{Missing, Spotted}
 use Rattle.std.specs.Prelude.{Some, None}
+use Rattle.syntax.proofs.Digits.{word_further, word_begun}
+use Rattle.syntax.proofs.Steps.{missing, spotted_word, byte_inside}
 
 -- what the code's answer says of the definition's
-value_some : (o : Option ℕ) (v : ℕ) → slot_as o ≡ Some v → o ≡ some v
+value_some : (o : Option ℕ) (v : ℕ) → number_as o ≡ Some v → o ≡ some v
 value_some none v e = clash (cc)
 value_some (some u) v e = ap some (cc)
 
-nothing_none : (o : Option ℕ) → slot_as o ≡ None → o ≡ none
-nothing_none none e = refl
-nothing_none (some u) e = clash (cc)
+none_none : (o : Option ℕ) → number_as o ≡ None → o ≡ none
+none_none none e = refl
+none_none (some u) e = clash (cc)
 
 -- letters that are no condition's: `NoneOf` is what a `_` behind arms for these numbers is told
 abbrev NoneOf : Type 0 → ℕ → List Text → Type 0
@@ -44,9 +44,9 @@ none_among B k n (t ∷ ts) r =
     let differ = (others (B × (n ≡ letters t → ⊥)) n ts r).1 in
     simp (ne_eqb n (letters t) differ) (none_among (B × (n ≡ letters t → ⊥)) (suc k) n ts r)
 
-pub letters_none : (B : Type 0) (n : ℕ) → NoneOf B n conditions → None ≡ slot_as (letters_value n)
+pub letters_none : (B : Type 0) (n : ℕ) → NoneOf B n conditions → None ≡ number_as (letters_value n)
 unfolding letters_value
-letters_none B n r = ap slot_as (sym (none_among B 0 n conditions r))
+letters_none B n r = ap number_as (sym (none_among B 0 n conditions r))
 
 -- a condition's word has two letters, so it is that of their number
 abbrev pairs : List Text → Bool
@@ -151,7 +151,7 @@ module _ (t : Text) (at x y : ℕ) (h : at ≤ length t) (p : x ≡ get_or t at 
   word_inside i zero r w = absurd (true≢false (sym w))
   word_inside i (suc c) r w = byte_inside t i (suc c) (omega arith) (sym r)
 
-  pub condition_read : (v : ℕ) → Some v ≡ slot_as (letters_value (x * 256 + y)) → Spotted 99 t at v (at + 2)
+  pub condition_read : (v : ℕ) → Some v ≡ number_as (letters_value (x * 256 + y)) → Spotted 99 t at v (at + 2)
   unfolding slot_value
   condition_read v e =
       let s : letters_value (x * 256 + y) ≡ some v = value_some (letters_value (x * 256 + y)) v (sym e) in
@@ -187,13 +187,13 @@ module _ (t : Text) (at x y : ℕ) (h : at ≤ length t) (p : x ≡ get_or t at 
       go true true [] = sym (condition_is (c ∷ f ∷ []) c f refl refl refl m n) ∙ e
       go true true (g ∷ w) = condition_long (c ∷ f ∷ g ∷ w) (λ z. omega arith)
 
-  pub condition_missing : None ≡ slot_as (letters_value (x * 256 + y)) → Spotted 99 t at 0 at
+  pub condition_missing : None ≡ number_as (letters_value (x * 256 + y)) → Missing 99 t at
   unfolding slot_value
   condition_missing e =
       let first : get_or (drop at t) 0 0 ≡ x = get_or-drop at t 0 0 ∙ ap (λ (i : ℕ). get_or t i 0) (omega arith)
       ∙ sym p in
       let second : get_or (drop at t) 1 0 ≡ y = get_or-drop at t 1 0 ∙ sym q in
-      spotted_none 99 refl t at 0 h
+      missing 99 refl t at
       (no_word (drop at t)
-      (rw (first, second) (nothing_none (letters_value (x * 256 + y)) (sym e)))
+      (rw (first, second) (none_none (letters_value (x * 256 + y)) (sym e)))
       (omega (arith, first)) (omega (arith, second)))

@@ -16,8 +16,8 @@ use Rattle.text.proofs.Scans.{rest}
 use Rattle.text.proofs.Words.{begins_word, and_left, and_right, every_append, every_weak}
 use Rattle.syntax.specs.Syntax.{slot_value, number_value, given, too_large}
 use Rattle.syntax.specs.Slots.{with_digit}
-use Rattle.syntax.specs.Spots.{Spotted, Digits, begins_digit}
-use Rattle.syntax.proofs.Steps.{spotted_none, spotted_word, byte_inside}
+use Rattle.syntax.specs.Spots.{Missing, Spotted, Digits, begins_digit}
+use Rattle.syntax.proofs.Steps.{missing, spotted_word, byte_inside}
 
 -- a word that goes on behind its front
 pub word_further : (w u : Text) → every in_word w ≡ true → word (w ++ u) ≡ w ++ word u
@@ -110,8 +110,8 @@ unfolding word
 word_begun C [] b f = absurd (true≢false (sym b))
 word_begun C (d ∷ v) b f = simp b (f d v refl b)
 
-pub number_none : (t : Text) (at : ℕ) → at ≤ length t → is_digit (get_or t at 0) ≡ false → Spotted 110 t at 0 at
-number_none t at h e = spotted_none 110 refl t at 0 h (number_missing t at e)
+pub number_none : (t : Text) (at : ℕ) → is_digit (get_or t at 0) ≡ false → Missing 110 t at
+number_none t at e = missing 110 refl t at (number_missing t at e)
 
 -- behind a zero there is no digit
 zero_alone : (d : ℕ) (v : Text) → slot_value 110 (48 ∷ d ∷ v) ≡ none

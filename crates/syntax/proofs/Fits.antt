@@ -16,7 +16,7 @@ use Rattle.syntax.specs.Syntax.{Pattern, slot_value, starts_with, tail, before, 
 use Rattle.syntax.specs.Syntax.{parse, patterns}
 use Rattle.syntax.specs.Parser.{parsed_as, parsed_at, Fit, misfit, fits, fit_before, fit_at, ended, fit_or}
 use Rattle.syntax.specs.Parser.{first_fit}
-use Rattle.syntax.specs.declared.parser.Parsed.TheVariants.{NoLine}
+use Rattle.std.specs.Prelude.{None}
 
 -- what a pattern makes of a first line that starts at a place
 abbrev fit_of : ℕ → Option (List ℕ) → Fit
@@ -163,7 +163,7 @@ feedless_all [] = true
 feedless_all (p ∷ ps) = feedless p && feedless_all ps
 
 rows_unended : (k : ℕ) (ps : List Pattern) (i : ℕ) (t u : Text) → feedless_all ps ≡ true → lines_of t ≡ remainder u
-    → first_fit k ps i t ≡ NoLine
+    → first_fit k ps i t ≡ None
 unfolding first_fit
 rows_unended k [] i t u f e = refl
 rows_unended k (p ∷ ps) i t u f e =

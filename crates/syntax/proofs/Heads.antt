@@ -1,25 +1,26 @@
 -- What lines begin with: a small letter a label, a B a branch, and four characters the rows of a name.
 use mathlib.Core.Bool.{Bool, true, false, true≢false, false≢true, not, ◌&&◌, ◌||◌}
 use mathlib.Core.List.{List, [], ◌∷◌}
-use mathlib.Core.Logic.{⊎_elim}
 use mathlib.Core.Path.{◌≡◌, refl, ap, ap₂, sym, ◌∙◌}
-use Prim.Native.Nat.{ℕ, suc, ◌+◌, ◌<◌, ◌≤◌}
+use Prim.Native.Nat.{ℕ, suc, ◌+◌, ◌-◌, ◌<◌, ◌≤◌}
 use native.Mathlib.Omega.{arith}
 use lib.Dec.{eqb, ltb}
-use lib.ListN.{length, get_or, drop}
-use borrow.Author.Tests.{eqb-true, eqb-false, eq-eqb, ne_eqb, lt-ltb, le-ltb, not-true, ltb-true}
-use Rattle.units.proofs.Cases.{lt_or_ge}
+use lib.ListN.{length, get_or, take, drop, length-drop}
+use lib.Seq.{get_or-drop}
+use Rattle.std.proofs.lemmas.List.{take_all}
+use Rattle.std.specs.Array.{IsFirstChunk}
+use Rattle.std.specs.Int.{from_be_bytes}
+use Rattle.std.proofs.Common.{Fits, w8, w32, get_or-take}
+use borrow.Author.Tests.{eqb-true, eqb-false, ne_eqb, lt-ltb, le-ltb, not-true, ltb-true}
 use Rattle.text.specs.Text.{Text, quoted, is_small, word, is_name, feed, lines_of}
 use Rattle.text.proofs.Scans.{rest}
 use Rattle.text.proofs.Words.{and_left, and_right}
 use Rattle.syntax.specs.Syntax.{Pattern, patterns, slot_value, name_value}
 use Rattle.syntax.specs.Parser.{parsed_at, Fit, misfit, fit_at, ended, fit_or, first_fit, line_fit, line_end, behind}
 use Rattle.syntax.specs.Parser.{operands_as, behind_name, instructions, four_of, Four, Row}
-use Rattle.syntax.specs.Spots.{Spotted}
-use Rattle.syntax.specs.Found.{found_as}
-use Rattle.syntax.specs.declared.operands.Found.{Found}
-use Rattle.syntax.specs.declared.parser.Parsed.{Parsed}
-use Rattle.syntax.specs.declared.parser.Parsed.TheVariants.{Line, NoLine}
+use Rattle.syntax.specs.Spots.{Missing, Spotted}
+use Rattle.syntax.specs.Parser.{Parsed}
+use Rattle.std.specs.Prelude.{None}
 use Rattle.syntax.proofs.Arguments.{no_line}
 use Rattle.syntax.proofs.Fits.{line_at}
 use Rattle.syntax.proofs.Names.{small_inside, name_none}
@@ -30,18 +31,15 @@ module _ (t : Text) (at v stop : ℕ) (s : Spotted 108 t at v stop) where
   abbrev label_line : Parsed
   label_line = line_fit 0 (fit_at (ended (quoted "l:")) at (drop at t))
 
-  pub no_name : stop ≡ at → NoLine ≡ label_line
-  no_name e = no_line 0 (s.missing e (ended (quoted ":")))
+  pub no_colon : (get_or t stop 0 ≡ 58 → ⊥) → None ≡ label_line
+  no_colon e =
+      no_line 0 (s.reads 58 (feed ∷ []) refl ∙ ap (behind v) (byte_stops 58 (feed ∷ []) t stop refl e))
 
-  pub no_colon : (stop ≡ at → ⊥) → (get_or t stop 0 ≡ 58 → ⊥) → NoLine ≡ label_line
-  no_colon n e =
-      no_line 0 (s.reads n 58 (feed ∷ []) refl ∙ ap (behind v) (byte_stops 58 (feed ∷ []) t stop refl e))
-
-  pub label_ends : (stop ≡ at → ⊥) → get_or t stop 0 ≡ 58 → (r : Parsed)
+  pub label_ends : get_or t stop 0 ≡ 58 → (r : Parsed)
       → r ≡ line_end 0 v 0 0 (fit_at (feed ∷ []) (stop + 1) (drop (stop + 1) t)) → r ≡ label_line
-  label_ends n e r q =
+  label_ends e r q =
       q ∙ end_one 0 (drop (stop + 1) t) (stop + 1) v
-      ∙ ap (line_fit 0) (sym (s.reads n 58 (feed ∷ []) refl
+      ∙ ap (line_fit 0) (sym (s.reads 58 (feed ∷ []) refl
       ∙ ap (behind v) (byte_goes 58 (feed ∷ []) t stop refl (omega arith) e)))
 
 -- a branch behind its B
@@ -49,51 +47,46 @@ module _ (t : Text) (at c stop : ℕ) (s : Spotted 99 t at c stop) where
   abbrev branch_line : Parsed
   branch_line = line_fit 17 (fit_at (ended (quoted "c l")) at (drop at t))
 
-  pub no_condition : stop ≡ at → NoLine ≡ branch_line
-  no_condition e = no_line 17 (s.missing e (ended (quoted " l")))
+  pub no_space : (get_or t stop 0 ≡ 32 → ⊥) → None ≡ branch_line
+  no_space e =
+      no_line 17 (s.reads 32 (ended (quoted "l")) refl
+      ∙ ap (behind c) (byte_stops 32 (ended (quoted "l")) t stop refl e))
 
-  module _ (n : stop ≡ at → ⊥) where
-    pub no_space : (get_or t stop 0 ≡ 32 → ⊥) → NoLine ≡ branch_line
-    no_space e =
-        no_line 17 (s.reads n 32 (ended (quoted "l")) refl
-        ∙ ap (behind c) (byte_stops 32 (ended (quoted "l")) t stop refl e))
+  module _ (e : get_or t stop 0 ≡ 32) where
+    target : fit_at (ended (quoted "c l")) at (drop at t)
+        ≡ behind c (fit_at (ended (quoted "l")) (stop + 1) (drop (stop + 1) t))
+    target =
+        s.reads 32 (ended (quoted "l")) refl
+        ∙ ap (behind c) (byte_goes 32 (ended (quoted "l")) t stop refl (omega arith) e)
 
-    module _ (e : get_or t stop 0 ≡ 32) (v end : ℕ) (w : Spotted 108 t (stop + 1) v end) where
-      target : fit_at (ended (quoted "c l")) at (drop at t)
-          ≡ behind c (fit_at (ended (quoted "l")) (stop + 1) (drop (stop + 1) t))
-      target =
-          s.reads n 32 (ended (quoted "l")) refl
-          ∙ ap (behind c) (byte_goes 32 (ended (quoted "l")) t stop refl (omega arith) e)
+    pub no_target : Missing 108 t (stop + 1) → None ≡ branch_line
+    no_target m = no_line 17 (target ∙ ap (behind c) (m (feed ∷ [])))
 
-      pub no_target : end ≡ stop + 1 → NoLine ≡ branch_line
-      no_target q = no_line 17 (target ∙ ap (behind c) (w.missing q (feed ∷ [])))
-
-      pub branch_ends : (end ≡ stop + 1 → ⊥) → (r : Parsed)
-          → r ≡ line_end 17 c v 0 (fit_at (feed ∷ []) end (drop end t)) → r ≡ branch_line
-      branch_ends m r q =
-          q ∙ end_two 17 (drop end t) end c v
-          ∙ ap (line_fit 17) (sym (target ∙ ap (behind c) (w.reads m feed [] refl)))
+    pub branch_ends : (v end : ℕ) → Spotted 108 t (stop + 1) v end → (r : Parsed)
+        → r ≡ line_end 17 c v 0 (fit_at (feed ∷ []) end (drop end t)) → r ≡ branch_line
+    branch_ends v end w r q =
+        q ∙ end_two 17 (drop end t) end c v
+        ∙ ap (line_fit 17) (sym (target ∙ ap (behind c) (w.reads feed [] refl)))
 
 -- the note of HALT
 module _ (t : Text) (at : ℕ) where
   abbrev note_line : Parsed
   note_line = line_fit 18 (fit_at (ended (quoted " #n")) at (drop at t))
 
-  pub no_hash : (eqb (get_or t at 0) 32 && eqb (get_or t (at + 1) 0) 35) ≡ false → NoLine ≡ note_line
+  pub no_hash : (eqb (get_or t at 0) 32 && eqb (get_or t (at + 1) 0) 35) ≡ false → None ≡ note_line
   no_hash e = no_line 18 (two_stops 32 35 (ended (quoted "n")) t at refl refl (omega arith) e)
 
-  module _ (e : (eqb (get_or t at 0) 32 && eqb (get_or t (at + 1) 0) 35) ≡ true) (v stop : ℕ)
-      (s : Spotted 110 t (at + 2) v stop) where
+  module _ (e : (eqb (get_or t at 0) 32 && eqb (get_or t (at + 1) 0) 35) ≡ true) where
     noted : fit_at (ended (quoted " #n")) at (drop at t) ≡ fit_at (ended (quoted "n")) (at + 2) (drop (at + 2) t)
     noted = two_goes 32 35 (ended (quoted "n")) t at refl refl (omega arith) (omega arith) e
 
-    pub no_note : stop ≡ at + 2 → NoLine ≡ note_line
-    no_note q = no_line 18 (noted ∙ s.missing q (feed ∷ []))
+    pub no_note : Missing 110 t (at + 2) → None ≡ note_line
+    no_note m = no_line 18 (noted ∙ m (feed ∷ []))
 
-    pub note_ends : (stop ≡ at + 2 → ⊥) → (r : Parsed) → r ≡ line_end 18 v 0 0 (fit_at (feed ∷ []) stop (drop stop t))
-        → r ≡ note_line
-    note_ends n r q =
-        q ∙ end_one 18 (drop stop t) stop v ∙ ap (line_fit 18) (sym (noted ∙ s.reads n feed [] refl))
+    pub note_ends : (v stop : ℕ) → Spotted 110 t (at + 2) v stop → (r : Parsed)
+        → r ≡ line_end 18 v 0 0 (fit_at (feed ∷ []) stop (drop stop t)) → r ≡ note_line
+    note_ends v stop s r q =
+        q ∙ end_one 18 (drop stop t) stop v ∙ ap (line_fit 18) (sym (noted ∙ s.reads feed [] refl))
 
 -- four bytes are those of the number that they make up
 four_same : (w x y z a b c d : ℕ) → w < 256 → x < 256 → y < 256 → z < 256 → a < 256 → b < 256 → c < 256 → d < 256
@@ -122,19 +115,14 @@ module _ (t : Text) (i name a b c d : ℕ) (f : Four t i name) (h : plain a ≡ 
   same_bytes : name ≡ four_of a b c d
       → (get_or t i 0 ≡ a) × (get_or t (i + 1) 0 ≡ b) × (get_or t (i + 2) 0 ≡ c) × (get_or t (i + 3) 0 ≡ d)
   same_bytes e =
-      let w = f.whole long in
-      four_same _ _ _ _ a b c d w.first w.second w.third w.fourth (plain_byte a h) (plain_byte b j)
-      (plain_byte c k) (plain_byte d l) (sym w.is ∙ e)
-    where
-      long : i + 4 ≤ length t
-      long =
-          ⊎_elim (λ z. absurd (omega (arith, f.short z, e, plain_some a h))) (λ z. z) (lt_or_ge (length t) (i + 4))
+      four_same _ _ _ _ a b c d f.first f.second f.third f.fourth (plain_byte a h) (plain_byte b j)
+      (plain_byte c k) (plain_byte d l) (sym f.is ∙ e)
 
   -- the rows of a name, which are told by computing
-  pub named : (row : ℕ)
+  pub named : (row : ℕ) → 0 < row
       → ((n : ℕ) (u : Text) → first_fit 1 instructions n (a ∷ b ∷ c ∷ d ∷ u) ≡ behind_name row (n + 1 + 1 + 1 + 1) u)
       → name ≡ four_of a b c d → Row t i row
-  named row g e =
+  named row counted g e =
       let s = same_bytes e in
       let m = byte_inside t (i + 3) d (plain_some d l) s.3 in
       let n : i + 1 + 1 ≡ i + 2 = omega arith in
@@ -152,96 +140,90 @@ module _ (t : Text) (i name a b c d : ℕ) (f : Four t i name) (h : plain a ≡ 
       let z : drop i t ≡ a ∷ b ∷ c ∷ d ∷ drop (i + 4) t =
       rest t i (omega arith) ∙ ap₂ (λ (x : ℕ) (u : Text). x ∷ u) s.0 y in
       record {
-        inside = λ r. omega arith;
+        counted = counted;
         decides =
             ap (first_fit 1 instructions i) z ∙ g i (drop (i + 4) t)
             ∙ ap (λ (y : ℕ). behind_name row y (drop (i + 4) t)) q;
       }
 
-  -- another name
-  other_name : (p : Pattern) → (name ≡ four_of a b c d → ⊥) → fit_at (a ∷ b ∷ c ∷ d ∷ p) i (drop i t) ≡ misfit
-  other_name p g =
-      by (eqb (get_or t i 0) a) (eqb (get_or t (i + 1) 0) b) (eqb (get_or t (i + 2) 0) c) (eqb (get_or t (i + 3) 0) d)
-      refl refl refl refl
-    where
-      n : i + 1 + 1 ≡ i + 2
-      n = omega arith
+-- another name
+module _ (t : Text) (i a b c d : ℕ) (h : plain a ≡ true) (j : plain b ≡ true) (k : plain c ≡ true) (l : plain d ≡ true)
+  where
+    other_name : (p : Pattern)
+        → (get_or t i 0 ≡ a → get_or t (i + 1) 0 ≡ b → get_or t (i + 2) 0 ≡ c → get_or t (i + 3) 0 ≡ d → ⊥)
+        → fit_at (a ∷ b ∷ c ∷ d ∷ p) i (drop i t) ≡ misfit
+    other_name p g =
+        by (eqb (get_or t i 0) a) (eqb (get_or t (i + 1) 0) b) (eqb (get_or t (i + 2) 0) c) (eqb (get_or t (i + 3) 0) d)
+        refl refl refl refl
+      where
+        n : i + 1 + 1 ≡ i + 2
+        n = omega arith
 
-      o : i + 2 + 1 ≡ i + 3
-      o = omega arith
+        o : i + 2 + 1 ≡ i + 3
+        o = omega arith
 
-      one : get_or t i 0 ≡ a → fit_at (a ∷ b ∷ c ∷ d ∷ p) i (drop i t) ≡ fit_at (b ∷ c ∷ d ∷ p) (i + 1) (drop (i + 1) t)
-      one e = byte_goes a (b ∷ c ∷ d ∷ p) t i (plain_literal a h) (plain_some a h) e
+        one : get_or t i 0 ≡ a → fit_at (a ∷ b ∷ c ∷ d ∷ p) i (drop i t) ≡ fit_at (b ∷ c ∷ d ∷ p) (i + 1) (drop (i + 1) t)
+        one e = byte_goes a (b ∷ c ∷ d ∷ p) t i (plain_literal a h) (plain_some a h) e
 
-      two : get_or t (i + 1) 0 ≡ b
-          → fit_at (b ∷ c ∷ d ∷ p) (i + 1) (drop (i + 1) t) ≡ fit_at (c ∷ d ∷ p) (i + 2) (drop (i + 2) t)
-      two e =
-          byte_goes b (c ∷ d ∷ p) t (i + 1) (plain_literal b j) (plain_some b j) e
-          ∙ ap (λ (y : ℕ). fit_at (c ∷ d ∷ p) y (drop y t)) n
+        two : get_or t (i + 1) 0 ≡ b
+            → fit_at (b ∷ c ∷ d ∷ p) (i + 1) (drop (i + 1) t) ≡ fit_at (c ∷ d ∷ p) (i + 2) (drop (i + 2) t)
+        two e =
+            byte_goes b (c ∷ d ∷ p) t (i + 1) (plain_literal b j) (plain_some b j) e
+            ∙ ap (λ (y : ℕ). fit_at (c ∷ d ∷ p) y (drop y t)) n
 
-      three : get_or t (i + 2) 0 ≡ c → fit_at (c ∷ d ∷ p) (i + 2) (drop (i + 2) t)
-          ≡ fit_at (d ∷ p) (i + 3) (drop (i + 3) t)
-      three e =
-          byte_goes c (d ∷ p) t (i + 2) (plain_literal c k) (plain_some c k) e
-          ∙ ap (λ (y : ℕ). fit_at (d ∷ p) y (drop y t)) o
+        three : get_or t (i + 2) 0 ≡ c → fit_at (c ∷ d ∷ p) (i + 2) (drop (i + 2) t)
+            ≡ fit_at (d ∷ p) (i + 3) (drop (i + 3) t)
+        three e =
+            byte_goes c (d ∷ p) t (i + 2) (plain_literal c k) (plain_some c k) e
+            ∙ ap (λ (y : ℕ). fit_at (d ∷ p) y (drop y t)) o
 
-      by : (w x y z : Bool) → eqb (get_or t i 0) a ≡ w → eqb (get_or t (i + 1) 0) b ≡ x → eqb (get_or t (i + 2) 0) c ≡ y
-          → eqb (get_or t (i + 3) 0) d ≡ z → fit_at (a ∷ b ∷ c ∷ d ∷ p) i (drop i t) ≡ misfit
-      by false x y z e q r s = byte_stops a (b ∷ c ∷ d ∷ p) t i (plain_literal a h) (eqb-false (get_or t i 0) a e)
-      by true false y z e q r s =
-          one (eqb-true (get_or t i 0) a e)
-          ∙ byte_stops b (c ∷ d ∷ p) t (i + 1) (plain_literal b j) (eqb-false (get_or t (i + 1) 0) b q)
-      by true true false z e q r s =
-          one (eqb-true (get_or t i 0) a e) ∙ two (eqb-true (get_or t (i + 1) 0) b q)
-          ∙ byte_stops c (d ∷ p) t (i + 2) (plain_literal c k) (eqb-false (get_or t (i + 2) 0) c r)
-      by true true true false e q r s =
-          one (eqb-true (get_or t i 0) a e) ∙ two (eqb-true (get_or t (i + 1) 0) b q)
-          ∙ three (eqb-true (get_or t (i + 2) 0) c r)
-          ∙ byte_stops d p t (i + 3) (plain_literal d l) (eqb-false (get_or t (i + 3) 0) d s)
-      by true true true true e q r s =
-          let m = eqb-true (get_or t i 0) a e in
-          let u = eqb-true (get_or t (i + 1) 0) b q in
-          let v = eqb-true (get_or t (i + 2) 0) c r in
-          let x = eqb-true (get_or t (i + 3) 0) d s in
-          let long = byte_inside t (i + 3) d (plain_some d l) x in
-          absurd (g ((f.whole (omega arith)).is ∙ rw (m, u, v, x) refl))
+        by : (w x y z : Bool) → eqb (get_or t i 0) a ≡ w → eqb (get_or t (i + 1) 0) b ≡ x → eqb (get_or t (i + 2) 0) c ≡ y
+            → eqb (get_or t (i + 3) 0) d ≡ z → fit_at (a ∷ b ∷ c ∷ d ∷ p) i (drop i t) ≡ misfit
+        by false x y z e q r s = byte_stops a (b ∷ c ∷ d ∷ p) t i (plain_literal a h) (eqb-false (get_or t i 0) a e)
+        by true false y z e q r s =
+            one (eqb-true (get_or t i 0) a e)
+            ∙ byte_stops b (c ∷ d ∷ p) t (i + 1) (plain_literal b j) (eqb-false (get_or t (i + 1) 0) b q)
+        by true true false z e q r s =
+            one (eqb-true (get_or t i 0) a e) ∙ two (eqb-true (get_or t (i + 1) 0) b q)
+            ∙ byte_stops c (d ∷ p) t (i + 2) (plain_literal c k) (eqb-false (get_or t (i + 2) 0) c r)
+        by true true true false e q r s =
+            one (eqb-true (get_or t i 0) a e) ∙ two (eqb-true (get_or t (i + 1) 0) b q)
+            ∙ three (eqb-true (get_or t (i + 2) 0) c r)
+            ∙ byte_stops d p t (i + 3) (plain_literal d l) (eqb-false (get_or t (i + 3) 0) d s)
+        by true true true true e q r s =
+            absurd (g (eqb-true (get_or t i 0) a e) (eqb-true (get_or t (i + 1) 0) b q)
+            (eqb-true (get_or t (i + 2) 0) c r) (eqb-true (get_or t (i + 3) 0) d s))
 
 -- the rest of the parse
 module _ (t : Text) (i row : ℕ) (w : Row t i row) where
-  pub by_no_row : row ≡ 0 → NoLine ≡ first_fit 1 instructions i (drop i t)
-  unfolding behind_name
-  by_no_row e = sym (w.decides ∙ rw e refl)
-
   pub by_note : row ≡ 18 → (r : Parsed) → r ≡ line_fit 18 (fit_at (ended (quoted " #n")) (i + 4) (drop (i + 4) t))
       → r ≡ first_fit 1 instructions i (drop i t)
   unfolding behind_name
   by_note e r q = q ∙ sym (w.decides ∙ rw e refl)
 
-  pub by_operands : (row ≡ 0 → ⊥) → row < 14 → (start : ℕ) → start ≡ i + 4 → (r : Parsed)
-      → r ≡ operands_as row start (drop start t) → r ≡ first_fit 1 instructions i (drop i t)
+  pub by_operands : row < 14 → (r : Parsed) → r ≡ operands_as row (i + 4) (drop (i + 4) t)
+      → r ≡ first_fit 1 instructions i (drop i t)
   unfolding behind_name
-  by_operands n l start e r q =
-      q ∙ ap (λ (k : ℕ). operands_as row k (drop k t)) e
-      ∙ sym (w.decides ∙ simp (ne_eqb row 0 n, ne_eqb row 18 (λ z. omega arith), lt-ltb row 14 l))
+  by_operands l r q = q ∙ sym (w.decides ∙ simp (ne_eqb row 18 (λ z. omega arith), lt-ltb row 14 l))
 
   module _ (l : 14 ≤ row) (n : row ≡ 18 → ⊥) where
     spaced : first_fit 1 instructions i (drop i t)
         ≡ line_fit row (fit_at (ended (quoted " r, [r, #n]")) (i + 4) (drop (i + 4) t))
     unfolding behind_name
-    spaced = w.decides ∙ simp (ne_eqb row 0 (λ z. omega arith), ne_eqb row 18 n, le-ltb row 14 l)
+    spaced = w.decides ∙ simp (ne_eqb row 18 n, le-ltb row 14 l)
 
-    pub by_no_space : (get_or t (i + 4) 0 ≡ 32 → ⊥) → NoLine ≡ first_fit 1 instructions i (drop i t)
+    pub by_no_space : (get_or t (i + 4) 0 ≡ 32 → ⊥) → None ≡ first_fit 1 instructions i (drop i t)
     by_no_space e =
         no_line row (byte_stops 32 (ended (quoted "r, [r, #n]")) t (i + 4) refl e) ∙ sym spaced
 
-    pub by_space : get_or t (i + 4) 0 ≡ 32 → (start : ℕ) → start ≡ i + 4 + 1 → (r : Parsed)
-        → r ≡ operands_as row start (drop start t) → r ≡ first_fit 1 instructions i (drop i t)
+    pub by_space : get_or t (i + 4) 0 ≡ 32 → (r : Parsed)
+        → r ≡ operands_as row (i + 4 + 1) (drop (i + 4 + 1) t) → r ≡ first_fit 1 instructions i (drop i t)
     unfolding operands_as
-    by_space e start s r q =
+    by_space e r q =
         let memory : operands_as row (i + 4 + 1) (drop (i + 4 + 1) t)
         ≡ line_fit row (fit_at (ended (quoted "r, [r, #n]")) (i + 4 + 1) (drop (i + 4 + 1) t)) =
         simp (le-ltb row 3 (omega arith), le-ltb row 8 (omega arith), ne_eqb row 9 (λ z. omega arith)) in
-        q ∙ ap (λ (k : ℕ). operands_as row k (drop k t)) s ∙ memory
+        q ∙ memory
         ∙ ap (line_fit row) (sym (byte_goes 32 (ended (quoted "r, [r, #n]")) t (i + 4) refl (omega arith) e))
         ∙ sym spaced
 
@@ -252,7 +234,7 @@ literals ([] ∷ ps) = false
 literals ((c ∷ p) ∷ ps) = not (is_small c) && literals ps
 
 small_none : (k : ℕ) (ps : List Pattern) (i c : ℕ) (u : Text) → literals ps ≡ true → is_small c ≡ true
-    → first_fit k ps i (c ∷ u) ≡ NoLine
+    → first_fit k ps i (c ∷ u) ≡ None
 unfolding first_fit fit_at
 small_none k [] i c u l s = refl
 small_none k ([] ∷ ps) i c u l s = absurd (true≢false (sym l))
@@ -266,7 +248,7 @@ module _ (t : Text) (at : ℕ) where
       → r ≡ line_fit 0 (fit_at (ended (quoted "l:")) at (drop at t)) → r ≡ parsed_at at (lines_of (drop at t))
   unfolding first_fit
   by_label s r e =
-      let others : first_fit 1 instructions at (drop at t) ≡ NoLine =
+      let others : first_fit 1 instructions at (drop at t) ≡ None =
       ap (first_fit 1 instructions at) (rest t at (small_inside t at s))
       ∙ small_none 1 instructions at (get_or t at 0) (drop (at + 1) t) refl s in
       e ∙ ap (fit_or 0 (fit_at (ended (quoted "l:")) at (drop at t))) (sym others) ∙ line_at at (drop at t)
@@ -284,12 +266,12 @@ module _ (t : Text) (at : ℕ) where
       ∙ ap (λ (c : ℕ). c ∷ drop (at + 1) t) e))
       ∙ line_at at (drop at t)
 
-  pub by_instruction : at ≤ length t → is_small (get_or t at 0) ≡ false → (r : Parsed)
+  pub by_instruction : is_small (get_or t at 0) ≡ false → (r : Parsed)
       → r ≡ first_fit 1 instructions at (drop at t) → r ≡ parsed_at at (lines_of (drop at t))
   unfolding first_fit
-  by_instruction h s r e =
+  by_instruction s r e =
       e ∙ ap (λ (f : Fit). fit_or 0 f (first_fit 1 instructions at (drop at t)))
-      (sym ((name_none t at h s).missing refl (ended (quoted ":"))))
+      (sym (name_none t at s (ended (quoted ":"))))
       ∙ line_at at (drop at t)
 
 -- the names, in the order of the code's arms
@@ -340,8 +322,9 @@ abbrev named_rows : List Pattern → Bool
 named_rows [] = true
 named_rows (p ∷ ps) = named_row p && named_rows ps
 
-module _ (B : Type 0) (t : Text) (i name : ℕ) (f : Four t i name) (n : get_or t i 0 ≡ 66 → ⊥)
-    (r : Unlike B name names) where
+module _ (t : Text) (i : ℕ) (n : get_or t i 0 ≡ 66 → ⊥)
+    (r : (a b c d : ℕ) → 0 < d → among (four_of a b c d) names ≡ true → get_or t i 0 ≡ a → get_or t (i + 1) 0 ≡ b
+    → get_or t (i + 2) 0 ≡ c → get_or t (i + 3) 0 ≡ d → ⊥) where
   row_misfits : (p : Pattern) → named_row p ≡ true → fit_at (ended p) i (drop i t) ≡ misfit
   row_misfits [] e = absurd (false≢true e)
   row_misfits (a ∷ []) e = absurd (false≢true e)
@@ -360,11 +343,11 @@ module _ (B : Type 0) (t : Text) (i name : ℕ) (f : Four t i name) (n : get_or 
           let last = and_right (plain a && plain b && plain c && plain d) (among (four_of a b c d) names) e in
           let three = and_left (plain a && plain b && plain c) (plain d) four in
           let two = and_left (plain a && plain b) (plain c) three in
-          other_name t i name a b c d f (and_left (plain a) (plain b) two) (and_right (plain a) (plain b) two)
-          (and_right (plain a && plain b) (plain c) three) (and_right (plain a && plain b && plain c) (plain d) four)
-          (ended p) (unlike_one B name (four_of a b c d) names r last)
+          let fourth = and_right (plain a && plain b && plain c) (plain d) four in
+          other_name t i a b c d (and_left (plain a) (plain b) two) (and_right (plain a) (plain b) two)
+          (and_right (plain a && plain b) (plain c) three) fourth (ended p) (r a b c d (plain_some d fourth) last)
 
-  rows_misfit : (k : ℕ) (ps : List Pattern) → named_rows ps ≡ true → first_fit k ps i (drop i t) ≡ NoLine
+  rows_misfit : (k : ℕ) (ps : List Pattern) → named_rows ps ≡ true → first_fit k ps i (drop i t) ≡ None
   unfolding first_fit
   rows_misfit k [] e = refl
   rows_misfit k (p ∷ ps) e =
@@ -372,15 +355,46 @@ module _ (B : Type 0) (t : Text) (i name : ℕ) (f : Four t i name) (n : get_or 
       (row_misfits p (and_left (named_row p) (named_rows ps) e))
       ∙ rows_misfit (suc k) ps (and_right (named_row p) (named_rows ps) e)
 
-  pub unnamed : Row t i 0
-  unfolding behind_name
-  unnamed = record { inside = λ z. absurd (z refl); decides = rows_misfit 1 instructions refl }
+  none_fits : None ≡ first_fit 1 instructions i (drop i t)
+  none_fits = sym (rows_misfit 1 instructions refl)
 
--- what was found, as it is answered
-module _ (f : Found) {r : Parsed} where
-  pub found_none : f.next ≡ 0 → found_as f ≡ r → NoLine ≡ r
-  found_none e q = sym (simp (eq-eqb f.next 0 e)) ∙ q
+pub unnamed : (B : Type 0) (t : Text) (i name : ℕ) → Four t i name → (get_or t i 0 ≡ 66 → ⊥) → Unlike B name names
+    → None ≡ first_fit 1 instructions i (drop i t)
+unnamed B t i name f n r =
+    none_fits t i n (λ a b c d z m e q u v.
+    unlike_one B name (four_of a b c d) names r m (f.is ∙ rw (e, q, u, v) refl))
 
-  pub found_some : (f.next ≡ 0 → ⊥) → found_as f ≡ r
-      → Line (record { row = f.row; values = record { a = f.a; b = f.b; c = f.c } }) f.next ≡ r
-  found_some n q = sym (simp (ne_eqb f.next 0 n)) ∙ q
+-- what is left of a text from a place on, as the code cuts it
+left_is : (t : Text) (i : ℕ) → take (length t - i) (drop i t) ≡ drop i t
+left_is t i = take_all (length t - i) (drop i t) (omega (arith, length-drop i t))
+
+-- fewer than four characters
+pub too_short : (t : Text) (i : ℕ) → (get_or t i 0 ≡ 66 → ⊥) → length (take (length t - i) (drop i t)) < 4
+    → None ≡ first_fit 1 instructions i (drop i t)
+too_short t i n h =
+    none_fits t i n (λ a b c d z m e q u v.
+    omega (arith, ap length (left_is t i), length-drop i t, byte_inside t (i + 3) d z v))
+
+-- four characters as they are read
+pub four_read : (t : Text) (i : ℕ) (bs : List ℕ) (name : ℕ) → IsFirstChunk (take (length t - i) (drop i t)) bs 4
+    → ((k : ℕ) → Fits w8 (get_or t k 0)) → name ≡ from_be_bytes w32 bs → Four t i name
+four_read t i bs name f h e =
+    let at : (k j : ℕ) → k < 4 → i + k ≡ j → get_or bs k 0 ≡ get_or t j 0 =
+    λ k j l q. ap (λ (x : List ℕ). get_or x k 0) (f.same ∙ ap (take 4) (left_is t i))
+    ∙ get_or-take 4 (drop i t) k 0 l ∙ get_or-drop i t k 0 ∙ ap (λ (n : ℕ). get_or t n 0) q in
+    record {
+      inside = omega (arith, f.enough, ap length (left_is t i), length-drop i t);
+      first = omega (arith, h i);
+      second = omega (arith, h (i + 1));
+      third = omega (arith, h (i + 2));
+      fourth = omega (arith, h (i + 3));
+      is =
+          omega (
+            arith,
+            e,
+            at 0 i (omega arith) (omega arith),
+            at 1 (i + 1) (omega arith) (omega arith),
+            at 2 (i + 2) (omega arith) (omega arith),
+            at 3 (i + 3) (omega arith) (omega arith),
+          );
+    }

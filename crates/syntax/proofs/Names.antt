@@ -16,8 +16,8 @@ use Rattle.text.proofs.Naming.{byte_fits, byte_more}
 use Rattle.text.proofs.Scans.{rest}
 use Rattle.text.proofs.Words.{and_left, every_append, every_weak}
 use Rattle.syntax.specs.Syntax.{slot_value, name_value, given}
-use Rattle.syntax.specs.Spots.{Spotted}
-use Rattle.syntax.proofs.Steps.{spotted_none, spotted_word, byte_inside, first_byte}
+use Rattle.syntax.specs.Spots.{Missing, Spotted}
+use Rattle.syntax.proofs.Steps.{missing, spotted_word, byte_inside, first_byte}
 use Rattle.syntax.proofs.Digits.{word_further, word_begun, every_breaks, digits_snoc}
 
 name_in_word : (c : ℕ) → in_name c ≡ true → in_word c ≡ true
@@ -107,8 +107,8 @@ name_missing t at e = ⊎_elim inside over (lt_or_ge at (length t))
     over : length t ≤ at → slot_value 108 (word (drop at t)) ≡ none
     over h = rw (drop_of_length-le t h) refl
 
-pub name_none : (t : Text) (at : ℕ) → at ≤ length t → is_small (get_or t at 0) ≡ false → Spotted 108 t at 0 at
-name_none t at h e = spotted_none 108 refl t at 0 h (name_missing t at e)
+pub name_none : (t : Text) (at : ℕ) → is_small (get_or t at 0) ≡ false → Missing 108 t at
+name_none t at e = missing 108 refl t at (name_missing t at e)
 
 -- a letter and up to seven letters or digits
 module _ (c : ℕ) (w : Text) (s : is_small c ≡ true) where

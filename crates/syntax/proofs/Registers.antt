@@ -14,8 +14,8 @@ use Rattle.text.specs.Text.{Text, is_digit, in_word, every, word, digits_after, 
 use Rattle.text.proofs.Scans.{rest}
 use Rattle.text.proofs.Words.{begins_word, and_left, and_right, every_weak, word_front}
 use Rattle.syntax.specs.Syntax.{slot_value, number_value, register_value, below, given, too_large}
-use Rattle.syntax.specs.Spots.{Register}
-use Rattle.syntax.proofs.Steps.{spotted_none, spotted_word, byte_inside, first_byte}
+use Rattle.syntax.specs.Spots.{Register, NoRegister}
+use Rattle.syntax.proofs.Steps.{missing, spotted_word, byte_inside, first_byte}
 use Rattle.syntax.proofs.Digits.{word_further, word_begun, digit_in_word, digit_low, digit_high, number_missing}
 
 -- a number from 16 on is no register's
@@ -82,8 +82,7 @@ module _ (t ds u : Text) (at v stop : ℕ) (h : at ≤ length t) (d : drop at t 
     any = spotted_word 104 refl t at v h (82 ∷ ds) u stop d (omega arith) (omega arith) whole value_any stops_any;
     low = λ k.
         spotted_word 114 refl t at v h (82 ∷ ds) u stop d (omega arith) (omega arith) whole (value_low k) stops_low;
-    high = λ k p.
-        (spotted_none 114 refl t at 0 h (ap (λ (s : Text). slot_value 114 (word s)) d ∙ none_high k)).missing refl p;
+    high = λ k. missing 114 refl t at (ap (λ (s : Text). slot_value 114 (word s)) d ∙ none_high k);
   }
 
 -- no register
@@ -110,20 +109,15 @@ module _ (t : Text) (at : ℕ) where
       let q : number_value (word (drop (at + 1) t)) ≡ none = number_missing t (at + 1) n in
       rw (rest t at (byte_inside t at 82 (omega arith) e), e, q) refl
 
-  none_both : at ≤ length t → ((k : ℕ) → register_value k (word (drop at t)) ≡ none) → Register t at 0 at
+  none_both : ((k : ℕ) → register_value k (word (drop at t)) ≡ none) → NoRegister t at
   unfolding slot_value
-  none_both h f = record {
-    any = spotted_none 104 refl t at 0 h (f 16);
-    low = λ k. spotted_none 114 refl t at 0 h (f 8);
-    high = λ k. absurd (omega arith);
-  }
+  none_both f = record { any = missing 104 refl t at (f 16); low = missing 114 refl t at (f 8) }
 
-  pub register_other : at ≤ length t → (get_or t at 0 ≡ 82 → ⊥) → Register t at 0 at
-  register_other h n = none_both h (λ k. no_letter k n)
+  pub register_other : (get_or t at 0 ≡ 82 → ⊥) → NoRegister t at
+  register_other n = none_both (λ k. no_letter k n)
 
-  pub register_no_digit : at ≤ length t → get_or t at 0 ≡ 82 → is_digit (get_or t (at + 1) 0) ≡ false
-      → Register t at 0 at
-  register_no_digit h e n = none_both h (λ k. no_digit k e n)
+  pub register_no_digit : get_or t at 0 ≡ 82 → is_digit (get_or t (at + 1) 0) ≡ false → NoRegister t at
+  register_no_digit e n = none_both (λ k. no_digit k e n)
 
 -- what follows the first digits of a text that has them behind an R
 module _ (t : Text) (at : ℕ) (c : get_or t at 0 ≡ 82) where

@@ -16,7 +16,7 @@ use Rattle.text.proofs.Scans.{rest}
 use Rattle.text.proofs.Words.{begins_word, and_left, and_right, or_right, word_front, word_back}
 use Rattle.syntax.specs.Syntax.{Pattern, slot_value, starts_with}
 use Rattle.syntax.specs.Parser.{misfit, fits, fit_before, fit_at, line_fit, line_end, behind}
-use Rattle.syntax.specs.Spots.{Spotted}
+use Rattle.syntax.specs.Spots.{Missing, Spotted}
 
 -- a byte that is none of 0 lies in the text
 pub byte_inside : (t : Text) (i c : ℕ) → 0 < c → get_or t i 0 ≡ c → i < length t
@@ -81,19 +81,12 @@ module _ (k v : ℕ) (s : is_small k ≡ true) (w u : Text) (h : every in_word w
       go false b = slot_short c p i b
       go true b = slot_long c p i n b
 
+pub missing : (k : ℕ) → is_small k ≡ true → (t : Text) (at : ℕ) → slot_value k (word (drop at t)) ≡ none
+    → Missing k t at
+unfolding fit_at
+missing k s t at e p = simp s (rw e refl)
+
 module _ (k : ℕ) (s : is_small k ≡ true) (t : Text) (at value : ℕ) (i : at ≤ length t) where
-  none_there : slot_value k (word (drop at t)) ≡ none → (p : Pattern) → fit_at (k ∷ p) at (drop at t) ≡ misfit
-  unfolding fit_at
-  none_there e p = simp s (rw e refl)
-
-  pub spotted_none : slot_value k (word (drop at t)) ≡ none → Spotted k t at value at
-  spotted_none e = record {
-    behind = omega arith;
-    inside = i;
-    missing = λ q p. none_there e p;
-    reads = λ q c p n. absurd (q refl);
-  }
-
   pub spotted_word : (w u : Text) (stop : ℕ) → drop at t ≡ w ++ u → 0 < length w → stop ≡ at + length w
       → every in_word w ≡ true → slot_value k w ≡ some value
       → (begins_word u ≡ true → slot_value k (word (w ++ u)) ≡ none) → Spotted k t at value stop
@@ -106,8 +99,7 @@ module _ (k : ℕ) (s : is_small k ≡ true) (t : Text) (at value : ℕ) (i : at
       record {
         behind = omega arith;
         inside = omega arith;
-        missing = λ q p. absurd (omega arith);
-        reads = λ q c p n.
+        reads = λ c p n.
             ap (fit_at (k ∷ c ∷ p) at) d ∙ slot_reads k value s w u h e f c p at n
             ∙ rw (left, l) refl;
       }

@@ -2,4 +2,3 @@ pub mod Syntax
 pub mod Slots
 pub mod Parser
 pub mod Spots
-pub mod Found

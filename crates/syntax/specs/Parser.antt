@@ -1,14 +1,14 @@
 -- What the code of the parser answers, by the definitions of the syntax.
 use Rattle.std.specs.Prelude.{Bool, cond, ◌&&◌, List, [], ◌∷◌, ◌++◌, ◌≡◌, ℕ, suc, ◌+◌, ◌*◌, ◌<◌, ◌≤◌, eqb, ltb}
-use Rattle.std.specs.Prelude.{length, get_or, drop}
+use Rattle.std.specs.Prelude as Std
+use Rattle.std.specs.Prelude.{Some, None, length, get_or, drop}
 use Rattle.std.proofs.Math.Option.{Option, none, some}
 use Prim.Native.Char.{code}
 use Rattle.text.specs.Text.{Text, quoted, is_small, word, after_word, feed, Lines, remainder, line}
 use Rattle.syntax.specs.Syntax.{Pattern, patterns, slot_value, starts_with, tail, parse}
 use Rattle.syntax.specs.Syntax as Syntax
 use Rattle.syntax.specs.declared.parser.Item.{Item}
-use Rattle.syntax.specs.declared.parser.Parsed.{Parsed}
-use Rattle.syntax.specs.declared.parser.Parsed.TheVariants.{Line, NoLine}
+use Rattle.syntax.specs.declared.parser.Line.{Line}
 use Rattle.syntax.specs.declared.parser.Values.{Values}
 
 -- the first three values, 0 where there are fewer
@@ -18,14 +18,21 @@ values_as us = record { a = get_or us 0 0; b = get_or us 1 0; c = get_or us 2 0 
 abbrev pub item_as : Syntax.Item → Item
 item_as x = record { row = x.row; values = values_as x.values }
 
--- an item that was read, and where the next line starts
+-- what a place of a text was read as: its line, if it has one
+abbrev pub Parsed : Type 0
+Parsed = Std.Option Line
+
+-- a line of an item, and where the next one starts
+abbrev pub line_of : Item → ℕ → Parsed
+line_of x next = Some (record { item = x; next = next })
+
 abbrev pub parsed_as : ℕ → Option Syntax.Item → Parsed
-parsed_as next none = NoLine
-parsed_as next (some x) = Line (item_as x) next
+parsed_as next none = None
+parsed_as next (some x) = line_of (item_as x) next
 
 -- what the first line of a text says that starts at a place; what has no line feed is no line
 abbrev pub parsed_at : ℕ → Lines → Parsed
-parsed_at at (remainder t) = NoLine
+parsed_at at (remainder t) = None
 parsed_at at (line t ls) = parsed_as (at + length t + 1) (parse t)
 
 -- what a pattern makes of a text from a place on: the values of its slots, and the place behind it
@@ -52,20 +59,20 @@ ended p = p ++ (feed ∷ [])
 -- a line of the row if the pattern fits
 abbrev pub fit_or : ℕ → Fit → Parsed → Parsed
 fit_or row misfit other = other
-fit_or row (fits vs n) other = Line (record { row = row; values = values_as vs }) n
+fit_or row (fits vs n) other = line_of (record { row = row; values = values_as vs }) n
 
 -- the first of the rows, which are counted from one on
 unfoldable pub first_fit : ℕ → List Pattern → ℕ → Text → Parsed
-first_fit row [] i t = NoLine
+first_fit row [] i t = None
 first_fit row (p ∷ ps) i t = let later = first_fit (suc row) ps i t in fit_or row (fit_at (ended p) i t) later
 
 abbrev pub line_fit : ℕ → Fit → Parsed
-line_fit row f = fit_or row f NoLine
+line_fit row f = fit_or row f None
 
 -- a line of three values, if its end fits
 abbrev pub line_end : ℕ → ℕ → ℕ → ℕ → Fit → Parsed
-line_end row a b c misfit = NoLine
-line_end row a b c (fits vs n) = Line (record { row = row; values = record { a = a; b = b; c = c } }) n
+line_end row a b c misfit = None
+line_end row a b c (fits vs n) = line_of (record { row = row; values = record { a = a; b = b; c = c } }) n
 
 -- what fits behind a register, and only behind one of the first eight
 abbrev pub behind : ℕ → Fit → Fit
@@ -79,9 +86,9 @@ unfoldable pub pair_row : ℕ → Bool → ℕ
 pair_row row low = cond (eqb row 1) 11 (cond (eqb row 2) (cond low 8 10) 9)
 
 abbrev pub any_pair : ℕ → ℕ → Fit → Parsed
-any_pair row a misfit = NoLine
+any_pair row a misfit = None
 any_pair row a (fits vs n) =
-    Line (record { row = pair_row row (ltb a 8 && ltb (get_or vs 0 0) 8); values = values_as (a ∷ vs) }) n
+    line_of (record { row = pair_row row (ltb a 8 && ltb (get_or vs 0 0) 8); values = values_as (a ∷ vs) }) n
 
 -- operands behind the name of a row, in all rows of the name; MOV, CMP and ADD have their first one
 abbrev pub pair_rows : ℕ → ℕ → Text → Parsed
@@ -97,37 +104,37 @@ operands_as row i t =
     (fit_or 9 (fit_at (ended (quoted "h, h")) i t) (line_fit 16 (fit_at (ended (quoted "r, PC, #n")) i t)))
     (line_fit row (fit_at (ended (quoted "r, [r, #n]")) i t))))
 
--- what stands behind the first four characters of a row; no row has the number 0
+-- what stands behind the first four characters of a row
 unfoldable pub behind_name : ℕ → ℕ → Text → Parsed
 behind_name row i t =
-    cond (eqb row 0) NoLine
-    (cond (eqb row 18) (line_fit 18 (fit_at (ended (quoted " #n")) i t))
-    (cond (ltb row 14) (operands_as row i t) (line_fit row (fit_at (ended (quoted " r, [r, #n]")) i t))))
+    cond (eqb row 18) (line_fit 18 (fit_at (ended (quoted " #n")) i t))
+    (cond (ltb row 14) (operands_as row i t) (line_fit row (fit_at (ended (quoted " r, [r, #n]")) i t)))
 
 -- the rows of instructions
 abbrev pub instructions : List Pattern
 instructions = drop 1 patterns
 
--- four characters as one number; 0 if there are fewer
+-- four characters as one number, the first the highest
 abbrev pub four_of : ℕ → ℕ → ℕ → ℕ → ℕ
 four_of a b c d = a * 16777216 + b * 65536 + c * 256 + d
 
-pub record Bytes (t : Text) (i name : ℕ) : Type 0 where
+pub record Four (t : Text) (i name : ℕ) : Type 0 where
+  pub inside : i + 4 ≤ length t
   pub first : get_or t i 0 < 256
   pub second : get_or t (i + 1) 0 < 256
   pub third : get_or t (i + 2) 0 < 256
   pub fourth : get_or t (i + 3) 0 < 256
   pub is : name ≡ four_of (get_or t i 0) (get_or t (i + 1) 0) (get_or t (i + 2) 0) (get_or t (i + 3) 0)
 
-pub record Four (t : Text) (i name : ℕ) : Type 0 where
-  pub short : length t < i + 4 → name ≡ 0
-  pub whole : i + 4 ≤ length t → Bytes t i name
-
--- the first row with a name of four characters, 0 for none: what stands behind the name decides. Branches are told
--- apart before
+-- the first row with a name of four characters, if there is one: what stands behind the name decides. Branches are
+-- told apart before
 pub record Row (t : Text) (i row : ℕ) : Type 0 where
-  pub inside : (row ≡ 0 → ⊥) → i + 4 ≤ length t
+  pub counted : 0 < row
   pub decides : first_fit 1 instructions i (drop i t) ≡ behind_name row (i + 4) (drop (i + 4) t)
 
-abbrev pub Named : ℕ → ℕ → Type 0
-Named name row = (t : Text) (i : ℕ) → Four t i name → (get_or t i 0 ≡ code "B" → ⊥) → Row t i row
+abbrev pub RowAt : Text → ℕ → Std.Option ℕ → Type 0
+RowAt t i None = None ≡ first_fit 1 instructions i (drop i t)
+RowAt t i (Some row) = Row t i row
+
+abbrev pub Named : ℕ → Std.Option ℕ → Type 0
+Named name row = (t : Text) (i : ℕ) → Four t i name → (get_or t i 0 ≡ code "B" → ⊥) → RowAt t i row

@@ -1,12 +1,14 @@
 -- What the code of the slots answers, by the definitions of texts.
-use Rattle.std.specs.Prelude.{cond, List, [], ◌∷◌, ℕ, suc, ◌+◌, ◌-◌, ◌*◌, min, eqb, Some, None}
+use Rattle.std.specs.Prelude as Std
+use Rattle.std.specs.Prelude.{Some, None, cond, List, [], ◌∷◌, ℕ, suc, ◌+◌, ◌-◌, ◌*◌, min, eqb}
 use Rattle.std.proofs.Math.Option.{Option, none, some}
 use Rattle.text.specs.Text.{Text}
 use Rattle.syntax.specs.Syntax.{too_large, conditions}
 
-abbrev pub slot_as : Option ℕ → Option ℕ
-slot_as none = None
-slot_as (some v) = Some v
+-- a number of the definitions, if there is one, as the code answers it
+abbrev pub number_as : Option ℕ → Std.Option ℕ
+number_as none = None
+number_as (some v) = Some v
 
 -- one digit more, up to the number that is too large for every field
 abbrev pub with_digit : ℕ → ℕ → ℕ

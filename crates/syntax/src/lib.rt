@@ -6,4 +6,4 @@ mod operands;
 mod parser;
 mod slots;
 
-pub use parser::{Item, Parsed, Values, parse};
+pub use parser::{Item, Line, Values, parse};

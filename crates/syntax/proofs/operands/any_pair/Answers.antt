@@ -4,5 +4,4 @@ use Rattle.syntax.proofs.operands.any_pair.Goals as goal
 
 pub returns : goal.returns
 returns c =
-    any_ends _ _ _ _ c.register_at-b.ensures _ _ c.if-b-at.false _ c.both_low-low.ensures _ c.pair_row.ensures _
-    c.end_line.ensures
+    any_ends _ _ _ _ c.in_ok-b.ensures _ _ _ c.both_low-low.ensures _ c.pair_row.ensures _ c.end_line.ensures

@@ -1,6 +1,5 @@
 -- The line feed is there or not.
-use Rattle.std.proofs.Common.{[], refl, sym, ap, ◌∙◌, ◌+◌, arith}
-use Rattle.std.proofs.lemmas.Bool.{ne_eqb}
+use Rattle.std.proofs.Common.{[], refl, sym, ap, ◌∙◌, arith}
 use Rattle.syntax.specs.Parser.{fit_at, line_end}
 use Rattle.syntax.proofs.Steps.{byte_goes, byte_stops}
 use Rattle.syntax.proofs.operands.end_line.Goals as goal
@@ -13,8 +12,6 @@ returns-then-byte_at-ne10 c =
 pub returns : goal.returns
 unfolding fit_at
 returns c =
-    let at = c.args.at in
-    let line = line_end c.args.row c.args.a c.args.b c.args.c in
-    simp (ne_eqb (at + 1) 0 (λ z. omega arith)) (ap line
-    (sym (byte_goes 10 [] c.args.text.now at refl (omega arith)
-    (sym c.byte_at.ensures ∙ c.if-byte_at-ne10.false))))
+    ap (line_end c.args.row c.args.a c.args.b c.args.c)
+    (sym (byte_goes 10 [] c.args.text.now c.args.at refl (omega arith)
+    (sym c.byte_at.ensures ∙ c.if-byte_at-ne10.false)))

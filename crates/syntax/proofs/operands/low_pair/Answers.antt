@@ -5,5 +5,4 @@ use Rattle.syntax.proofs.operands.low_pair.Goals as goal
 
 pub returns : goal.returns
 returns c =
-    pair_ends _ _ _ _ c.register_at-b.ensures c.args.row c.args.a (omega arith) c.if-b-at.false (omega arith) _
-    c.end_line.ensures
+    pair_ends _ _ _ _ c.in_ok-b.ensures c.args.row c.args.a (omega arith) (omega arith) _ c.end_line.ensures

@@ -3,4 +3,4 @@ use Rattle.syntax.proofs.Arguments.{number_ends}
 use Rattle.syntax.proofs.operands.number_line.Goals as goal
 
 pub returns : goal.returns
-returns c = number_ends _ _ _ _ _ _ c.number_at-n.ensures c.if-n-at.false _ c.end_line.ensures
+returns c = number_ends _ _ _ _ _ _ c.in_ok-n.ensures _ c.end_line.ensures

@@ -12,19 +12,19 @@ returns-then-byte_at-ne35 c =
     no_hash c.args.text.now c.args.at c.args.row c.args.a c.args.b (sym c.two_at.ensures ∙ c.if-not-two_at.false)
     (λ q. c.if-byte_at-ne35.true (c.byte_at.ensures ∙ q))
 
-pub returns-then-n-at : goal.returns-then-n-at
-returns-then-n-at c =
-    no_offset c.args.text.now c.args.at c.args.row c.args.a c.args.b (sym c.two_at.ensures ∙ c.if-not-two_at.false)
-    (sym c.byte_at.ensures ∙ c.if-byte_at-ne35.false) _ _ c.number_at-n.ensures c.if-n-at.true
+pub returns-in_err-n : goal.returns-in_err-n
+returns-in_err-n c =
+    rw c.from_residual.ensures (no_offset c.args.text.now c.args.at c.args.row c.args.a c.args.b (sym c.two_at.ensures ∙ c.if-not-two_at.false)
+    (sym c.byte_at.ensures ∙ c.if-byte_at-ne35.false) c.in_err-n.ensures)
 
 pub returns-then-byte_at-ne93 : goal.returns-then-byte_at-ne93
 returns-then-byte_at-ne93 c =
     no_bracket c.args.text.now c.args.at c.args.row c.args.a c.args.b (sym c.two_at.ensures ∙ c.if-not-two_at.false)
-    (sym c.byte_at.ensures ∙ c.if-byte_at-ne35.false) _ _ c.number_at-n.ensures c.if-n-at.false
+    (sym c.byte_at.ensures ∙ c.if-byte_at-ne35.false) _ _ c.in_ok-n.ensures
     (λ q. c.if-byte_at-ne93.true (c.byte_at-2.ensures ∙ q))
 
 pub returns : goal.returns
 returns c =
     offset_ends c.args.text.now c.args.at c.args.row c.args.a c.args.b (sym c.two_at.ensures ∙ c.if-not-two_at.false)
-    (sym c.byte_at.ensures ∙ c.if-byte_at-ne35.false) _ _ c.number_at-n.ensures c.if-n-at.false
+    (sym c.byte_at.ensures ∙ c.if-byte_at-ne35.false) _ _ c.in_ok-n.ensures
     (sym c.byte_at-2.ensures ∙ c.if-byte_at-ne93.false) _ c.end_line.ensures

@@ -1,44 +1,40 @@
 -- The name has the row, and what stands behind it decides.
-use Rattle.std.proofs.Common.{sym, ◌∙◌, arith}
-use Rattle.syntax.proofs.Heads.{by_no_row, by_note, by_no_space, by_space, by_operands}
-use Rattle.syntax.proofs.Steps.{byte_inside}
+use Rattle.std.proofs.Common.{sym, ◌∙◌}
+use Rattle.syntax.proofs.Heads.{too_short, four_read, by_note, by_no_space, by_space, by_operands}
 use Rattle.syntax.proofs.parser.instruction.Goals as goal
-use Rattle.syntax.proofs.parser.instruction.Goals.{then-row-ge14+else-byte_at-ne32, else-row-ge14}
 
-pub returns-then-row-eq0 : goal.returns-then-row-eq0
-returns-then-row-eq0 c =
-    by_no_row _ _ _ (c.row_named-row.ensures _ _ c.four_at-name.ensures c.requires.1) c.if-row-eq0.true
+pub returns-in_err-name : goal.returns-in_err-name
+returns-in_err-name c = rw c.from_residual.ensures (too_short _ _ c.requires.1 c.in_err-name.ensures.cases)
+
+pub returns-in_err-row : goal.returns-in_err-row
+returns-in_err-row c =
+    rw c.from_residual-in_err-row.ensures
+    (c.in_err-row.ensures _ _ (four_read _ _ _ _ c.in_ok-name.ensures.cases c.type_inv.text c.from_be_bytes.ensures)
+    c.requires.1)
 
 pub returns-then-row-eq18 : goal.returns-then-row-eq18
 returns-then-row-eq18 c =
-    by_note _ _ _ (c.row_named-row.ensures _ _ c.four_at-name.ensures c.requires.1) c.if-row-eq18.true _ c.note.ensures
-
-pub returns-then-byte_at-ne32 : goal.returns-then-byte_at-ne32
-returns-then-byte_at-ne32 c =
-    by_no_space _ _ _ (c.row_named-row.ensures _ _ c.four_at-name.ensures c.requires.1) c.if-row-ge14.true
-    c.if-row-eq18.false (λ q. c.if-byte_at-ne32.true (c.byte_at.ensures ∙ q))
+    let f = four_read _ _ _ _ c.in_ok-name.ensures.cases c.type_inv.text c.from_be_bytes.ensures in
+    by_note _ _ _ (c.in_ok-row.ensures _ _ f c.requires.1) c.if-row-eq18.true _ c.note.ensures
 
 pub operands-requires : goal.operands-requires
 operands-requires c =
-    let row = c.row_named-row.ensures _ _ c.four_at-name.ensures c.requires.1 in (
-      elim c.if-row-ge14.branch [
-        | then-row-ge14+else-byte_at-ne32 w ↦
-            omega (
-              arith,
-              byte_inside c.args.text.now _ 32 (omega arith) (sym w.byte_at.ensures ∙ w.if-byte_at-ne32.false),
-            )
-        | else-row-ge14 w ↦ omega (arith, row.inside c.if-row-eq0.false)
-      ],
-      omega arith,
-    )
+    let f = four_read _ _ _ _ c.in_ok-name.ensures.cases c.type_inv.text c.from_be_bytes.ensures in
+    (f.inside, (c.in_ok-row.ensures _ _ f c.requires.1).counted)
+
+pub returns-then-row-lt14 : goal.returns-then-row-lt14
+returns-then-row-lt14 c =
+    let f = four_read _ _ _ _ c.in_ok-name.ensures.cases c.type_inv.text c.from_be_bytes.ensures in
+    by_operands _ _ _ (c.in_ok-row.ensures _ _ f c.requires.1) c.if-row-lt14.true _ c.operands.ensures
+
+pub returns-then-byte_at-ne32 : goal.returns-then-byte_at-ne32
+returns-then-byte_at-ne32 c =
+    let f = four_read _ _ _ _ c.in_ok-name.ensures.cases c.type_inv.text c.from_be_bytes.ensures in
+    by_no_space _ _ _ (c.in_ok-row.ensures _ _ f c.requires.1) c.if-row-lt14.false c.if-row-eq18.false
+    (λ q. c.if-byte_at-ne32.true (c.byte_at.ensures ∙ q))
 
 pub returns : goal.returns
 returns c =
-    let row = c.row_named-row.ensures _ _ c.four_at-name.ensures c.requires.1 in
-    elim c.if-row-ge14.branch [
-      | then-row-ge14+else-byte_at-ne32 w ↦
-          by_space _ _ _ row w.if-row-ge14.true c.if-row-eq18.false (sym w.byte_at.ensures ∙ w.if-byte_at-ne32.false)
-          _ w.start-is _ c.operands.ensures
-      | else-row-ge14 w ↦
-          by_operands _ _ _ row c.if-row-eq0.false w.if-row-ge14.false _ w.start-is _ c.operands.ensures
-    ]
+    let f = four_read _ _ _ _ c.in_ok-name.ensures.cases c.type_inv.text c.from_be_bytes.ensures in
+    by_space _ _ _ (c.in_ok-row.ensures _ _ f c.requires.1) c.if-row-lt14.false c.if-row-eq18.false
+    (sym c.byte_at.ensures ∙ c.if-byte_at-ne32.false) _ c.operands-2.ensures

@@ -6,12 +6,11 @@ use Rattle.syntax.proofs.parser.note.Goals as goal
 pub returns-then-not-two_at : goal.returns-then-not-two_at
 returns-then-not-two_at c = no_hash c.args.text.now c.args.at (sym c.two_at.ensures ∙ c.if-not-two_at.true)
 
-pub returns-then-n-at : goal.returns-then-n-at
-returns-then-n-at c =
-    no_note c.args.text.now c.args.at (sym c.two_at.ensures ∙ c.if-not-two_at.false) _ _ c.number_at-n.ensures
-    c.if-n-at.true
+pub returns-in_err-n : goal.returns-in_err-n
+returns-in_err-n c =
+    rw c.from_residual.ensures (no_note c.args.text.now c.args.at (sym c.two_at.ensures ∙ c.if-not-two_at.false) c.in_err-n.ensures)
 
 pub returns : goal.returns
 returns c =
-    note_ends c.args.text.now c.args.at (sym c.two_at.ensures ∙ c.if-not-two_at.false) _ _ c.number_at-n.ensures
-    c.if-n-at.false _ c.end_line.ensures
+    note_ends c.args.text.now c.args.at (sym c.two_at.ensures ∙ c.if-not-two_at.false) _ _ c.in_ok-n.ensures
+    _ c.end_line.ensures

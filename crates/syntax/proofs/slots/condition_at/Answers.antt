@@ -1,14 +1,15 @@
 -- The number of the two letters is the condition's.
-use Rattle.std.proofs.Common.{rules}
+use Rattle.std.proofs.Common.{arith}
 use Rattle.syntax.proofs.Conditions.{condition_read, condition_missing}
 use Rattle.syntax.proofs.slots.condition_at.Goals as goal
 
-pub returns-in-Value : goal.returns-in-Value
-returns-in-Value c =
-    condition_read _ _ _ _ c.requires c.byte_at-first.ensures c.byte_at-second.ensures (search rules)
-    (search rules) _ c.in-Value.ensures
+pub returns-in_err-value : goal.returns-in_err-value
+returns-in_err-value c =
+    rw c.from_residual.ensures
+    (condition_missing _ _ _ _ c.requires c.byte_at.ensures c.byte_at-2.ensures (omega arith)
+    (omega arith) (rw c.from_be_bytes.ensures at c.in_err-value.ensures))
 
-pub returns-in-Nothing : goal.returns-in-Nothing
-returns-in-Nothing c =
-    condition_missing _ _ _ _ c.requires c.byte_at-first.ensures c.byte_at-second.ensures (search rules)
-    (search rules) c.in-Nothing.ensures
+pub returns : goal.returns
+returns c =
+    condition_read _ _ _ _ c.requires c.byte_at.ensures c.byte_at-2.ensures (omega arith)
+    (omega arith) _ (rw c.from_be_bytes.ensures at c.in_ok-value.ensures)

@@ -1,10 +1,10 @@
 -- A digit goes on with the number; another character, or the end of the text, stops it.
-use Rattle.std.proofs.Common.{rules, arith, sym, ◌∙◌}
-use Rattle.syntax.proofs.Digits.{digits_start, digits_more, digits_stop, digits_over}
+use Rattle.std.proofs.Common.{arith, sym, ◌∙◌}
+use Rattle.syntax.proofs.Digits.{digits_start, digits_more, digits_stop}
 use Rattle.syntax.proofs.slots.digits_from.Goals as goal
 
 pub loop-i-init : goal.loop-i-init
-loop-i-init c = (search rules, search rules, digits_start _ _ _ c.requires.0 c.requires.1)
+loop-i-init c = (c.requires.0, c.requires.1, digits_start _ _ _ c.requires.0 c.requires.1)
 
 pub returns-then-not-is_digit : goal.returns-then-not-is_digit
 returns-then-not-is_digit c =
@@ -18,9 +18,3 @@ loop-i-preserved c = (
   digits_more _ _ _ _ _ c.loop-i.invariant.2 (omega arith)
       (sym c.is_digit.ensures ∙ c.if-not-is_digit.false) _ c.with_digit-value.ensures,
 )
-
-pub returns : goal.returns
-returns c = (c.loop-i.invariant.2, digits_over c.args.text.now c.loop-i.i (omega arith))
-
-pub with_digit-value-requires : goal.with_digit-value-requires
-with_digit-value-requires c = (search rules, sym c.is_digit.ensures ∙ c.if-not-is_digit.false)

@@ -8,7 +8,7 @@ use Rattle.syntax.proofs.slots.number_at.Goals as goal
 
 pub returns-then-not-is_digit : goal.returns-then-not-is_digit
 returns-then-not-is_digit c =
-    number_none c.args.text.now c.args.at c.requires
+    number_none c.args.text.now c.args.at
     (sym (ap is_digit c.byte_at-first.ensures) ∙ sym c.is_digit.ensures ∙ c.if-not-is_digit.true)
 
 pub digits_from-requires : goal.digits_from-requires

@@ -7,11 +7,11 @@ use Rattle.syntax.proofs.slots.register_at.Goals as goal
 
 pub returns-then-byte_at-ne82 : goal.returns-then-byte_at-ne82
 returns-then-byte_at-ne82 c =
-    register_other c.args.text.now c.args.at c.requires (λ q. c.if-byte_at-ne82.true (c.byte_at.ensures ∙ q))
+    register_other c.args.text.now c.args.at (λ q. c.if-byte_at-ne82.true (c.byte_at.ensures ∙ q))
 
 pub returns-then-not-is_digit : goal.returns-then-not-is_digit
 returns-then-not-is_digit c =
-    register_no_digit c.args.text.now c.args.at c.requires (sym c.byte_at.ensures ∙ c.if-byte_at-ne82.false)
+    register_no_digit c.args.text.now c.args.at (sym c.byte_at.ensures ∙ c.if-byte_at-ne82.false)
     (sym (ap is_digit c.byte_at-d.ensures) ∙ sym c.is_digit.ensures ∙ c.if-not-is_digit.true)
 
 pub returns-then-d-ne49 : goal.returns-then-d-ne49

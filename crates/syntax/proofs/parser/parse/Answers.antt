@@ -2,7 +2,7 @@
 use Rattle.std.proofs.Common.{sym, ap, ◌∙◌}
 use Rattle.text.specs.Text.{is_small}
 use Rattle.syntax.proofs.Heads.{by_label, by_branch, by_instruction}
-use Rattle.syntax.proofs.parser.find_line.Goals as goal
+use Rattle.syntax.proofs.parser.parse.Goals as goal
 
 pub returns-then-is_small : goal.returns-then-is_small
 returns-then-is_small c =
@@ -15,6 +15,6 @@ returns-then-first-eq66 c =
 
 pub returns : goal.returns
 returns c =
-    by_instruction c.args.text.now c.args.at c.requires
+    by_instruction c.args.text.now c.args.at
     (sym (ap is_small c.byte_at-first.ensures) ∙ sym c.is_small.ensures ∙ c.if-is_small.false) _
     c.instruction.ensures
