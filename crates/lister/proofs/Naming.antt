@@ -5,11 +5,12 @@ use mathlib.Core.Path.{◌≡◌, refl, sym, ap, ◌∙◌}
 use Prim.Native.Nat.{ℕ, ◌≤◌}
 use lib.Dec.{ltb}
 use lib.ListN.{length, get_or}
-use Rattle.std.proofs.Common.{Option, Some, None, slice_get}
+use Rattle.std.proofs.Common.{[], Option, Some, None, slice_get}
 use Rattle.std.proofs.lemmas.Option.{slice_get_past, slice_get-get_or}
 use Rattle.text.specs.Text.{Text}
 use borrow.Author.Tests.{ltb-true, ltb-false}
 use Rattle.isa.specs.Decode.{entry, only}
+use Rattle.isa.specs.declared.instruction.Instruction.{Instruction}
 use Rattle.isa.specs.declared.instruction.Instruction.TheVariants.{Branch}
 use Rattle.isa.proofs.Table.{no_arm}
 use Rattle.lister.specs.Lines.{branch_names, name_in}
