@@ -3,8 +3,6 @@
 // interval together with a count of low bits that are known to be 0.
 #![tactic(auto)]
 
-mod transfer;
 mod value;
 
-pub use transfer::{add, and, asr, byte, eor, neg};
-pub use value::{Value, exactly, unknown};
+pub use value::Value;

@@ -2,7 +2,7 @@
 use mathlib.Core.Bool.{Bool, true, false, cond}
 use mathlib.Core.List.{List}
 use mathlib.Core.Path.{◌≡◌, refl, sym, ap, ◌∙◌}
-use Prim.Native.Nat.{ℕ, zero, suc, ◌+◌, ◌≤◌, ◌<◌}
+use Prim.Native.Nat.{ℕ, ◌+◌, ◌≤◌, ◌<◌}
 use native.Mathlib.Omega.{arith}
 use lib.ListN.{length, get_or}
 use Rattle.units.specs.Address.{byte_address_of}
@@ -17,7 +17,7 @@ use Rattle.image.specs.Format.{most_code}
 use Rattle.image.specs.declared.checker.Layout.{Layout}
 use Rattle.image.proofs.Answers.{refused_at, passed_too}
 use Rattle.targets.specs.Marks.{MarkedBelow}
-use Rattle.targets.specs.Targets.{address_of, decoded_at, jump_at, targeted}
+use Rattle.targets.specs.Targets.{address_of, decoded_at, targeted}
 use Rattle.checks.specs.Questions.{check13, answer_at}
 use Rattle.lister.specs.List.{layout_for, instruction_checks, checks_at}
 use Rattle.lister.specs.Passes.{found_in, CheckedAs}
@@ -66,5 +66,5 @@ unfolding targeted
 all_checked code n marks fits e passed below =
     record {
       is = rw e at (sym passed);
-      marked = record { fits = fits; marked = λ j l. rw e at (below.marked j l) };
+      marked = record { fits = fits; marked = λ j l. rw e at (below j l) };
     }

@@ -13,7 +13,6 @@ use Rattle.units.specs.declared.address.InstructionIndex.{InstructionIndex}
 use Rattle.isa.specs.Decode.{decode_of}
 use Rattle.image.specs.Format.{most_code}
 use Rattle.targets.specs.Targets.{address_of, decoded_at, targeted, marked_at}
-use Rattle.text.specs.Text.{Text}
 use Rattle.text.specs.Writes.{Fits, Grew}
 use Rattle.text.specs.declared.writer.Writer.{Writer}
 use Rattle.text.proofs.Writing.{grew_as, ◌then◌}

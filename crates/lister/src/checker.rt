@@ -12,7 +12,7 @@ use checks::check_target;
 use image::Layout;
 use isa::decode;
 use refusals::{Check, Refusal};
-use targets::{jump, mark_target};
+use targets::{Marks, jump};
 use units::{ByteAddress, InstructionIndex};
 
 // Where a code ends that stands from address 0 on.
@@ -58,7 +58,7 @@ fn check_at(layout: Layout, a: ByteAddress, h: u16) -> Result<(), Refusal>
 // Checks 9 and 13 of a code, instruction by instruction, lowest address first.
 // Where nothing is marked yet and all pass, the marks are those of the code's
 // branch targets.
-pub(crate) fn check_code(code: &[u16], marks: &mut [u64; 249]) -> Result<(), Refusal>
+pub(crate) fn check_code(code: &[u16], marks: &mut Marks) -> Result<(), Refusal>
     requires { (length code.now ≤ most_code) × Unmarked marks.old }
     ensures { CheckedAs code.now result marks.new }
 {
@@ -66,7 +66,7 @@ pub(crate) fn check_code(code: &[u16], marks: &mut [u64; 249]) -> Result<(), Ref
     for (k, &h) in code.iter().enumerate() {
         let i = InstructionIndex(k as u16);
         check_at(layout, ByteAddress::from(i), h)?;
-        mark_target(marks, i, h);
+        marks.mark_target(i, h);
     }
     Ok(())
 }

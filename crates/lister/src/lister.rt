@@ -7,6 +7,7 @@ use super::checker::check_code;
 use super::writer::{measure, write};
 use image::MOST_CODE;
 use refusals::{Check, Refusal};
+use targets::Marks;
 
 // Check 15.
 fn is_program(code: &[u16]) -> bool
@@ -21,7 +22,7 @@ const MOST_EACH: usize = 19;
 
 // Check 16 of a code that passes the others. Where the room is enough for any code
 // of the length, the listing is not measured.
-fn has_room(code: &[u16], marks: &[u64; 249], room: usize) -> bool
+fn has_room(code: &[u16], marks: &Marks, room: usize) -> bool
     requires { Labelled code.now marks.now }
     ensures { result ≡ check16 code.now room }
 {
@@ -29,7 +30,7 @@ fn has_room(code: &[u16], marks: &[u64; 249], room: usize) -> bool
 }
 
 // Check 16, and the listing.
-fn write_listing(code: &[u16], marks: &[u64; 249], out: &mut [u8]) -> Result<usize, Refusal>
+fn write_listing(code: &[u16], marks: &Marks, out: &mut [u8]) -> Result<usize, Refusal>
     requires { Labelled code.now marks.now }
     ensures { (result ≡ listed_as (fitted_of code.now (length out.old)))
         × (out.new
@@ -52,7 +53,7 @@ pub fn list(code: &[u16], out: &mut [u8]) -> Result<usize, Refusal>
     if !is_program(code) {
         return Err(Refusal::new(Check::CodeLength));
     }
-    let mut marks = [0u64; 249];
+    let mut marks = Marks::new();
     check_code(code, &mut marks)?;
     write_listing(code, &marks, out)
 }

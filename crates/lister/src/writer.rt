@@ -11,7 +11,7 @@ ghost use Rattle.lister.specs.Passes.{lines_with, Labelled};
 
 use super::names::name_of;
 use super::operands::put_operands;
-use targets::is_marked;
+use targets::Marks;
 use text::Writer;
 use units::{ByteAddress, InstructionIndex};
 
@@ -41,18 +41,18 @@ pub(crate) fn put_instruction(out: &mut Writer<'_>, a: ByteAddress, h: u16)
 }
 
 // What is written for the halfword `h`, instruction `i`.
-fn put_lines(out: &mut Writer<'_>, marks: &[u64; 249], i: InstructionIndex, h: u16)
+fn put_lines(out: &mut Writer<'_>, marks: &Marks, i: InstructionIndex, h: u16)
     requires i_bound { i.0 < 64 * mark_words }
     requires h_in_bounds { Fits (lines_with (marked_at marks.now i.0) (byte_address_of i) (decode_of h)) out.old }
     ensures { Grew (lines_with (marked_at marks.now i.0) (byte_address_of i) (decode_of h)) out.old out.new }
 {
     let a = ByteAddress::from(i);
-    put_label(out, a, is_marked(marks, i));
+    put_label(out, a, marks.is_marked(i));
     put_instruction(out, a, h);
 }
 
 // Its length: it is written, but not into the output.
-fn lines_length(marks: &[u64; 249], i: InstructionIndex, h: u16) -> usize
+fn lines_length(marks: &Marks, i: InstructionIndex, h: u16) -> usize
     requires { i.0 < 64 * mark_words }
     ensures { result ≡ length
         (lines_with (marked_at marks.now i.0) (byte_address_of i) (decode_of h)) }
@@ -64,7 +64,7 @@ fn lines_length(marks: &[u64; 249], i: InstructionIndex, h: u16) -> usize
 }
 
 // The length of a code's listing.
-pub(crate) fn measure(code: &[u16], marks: &[u64; 249]) -> usize
+pub(crate) fn measure(code: &[u16], marks: &Marks) -> usize
     requires { Labelled code.now marks.now }
     ensures { result ≡ length (listing_of code.now) }
 {
@@ -77,7 +77,7 @@ pub(crate) fn measure(code: &[u16], marks: &[u64; 249]) -> usize
 
 // Writes a code's listing at the front of an output that has room for it, and
 // answers its length.
-pub(crate) fn write(out: &mut [u8], code: &[u16], marks: &[u64; 249]) -> usize
+pub(crate) fn write(out: &mut [u8], code: &[u16], marks: &Marks) -> usize
     requires labelled { Labelled code.now marks.now }
     requires code_in_bounds { length (listing_of code.now) ≤ length out.old }
     ensures { (result ≡ length (listing_of code.now))

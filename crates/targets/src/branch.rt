@@ -16,10 +16,7 @@ pub fn jump(a: ByteAddress, h: u16) -> Option<ByteAddress>
     ensures { result ≡ jump_at a (decode_of h) }
 {
     let upper = units::bits(h, 8, 8);
-    if upper < FIRST_BRANCH {
-        return None;
-    }
-    if upper > LAST_BRANCH {
+    if upper < FIRST_BRANCH || upper > LAST_BRANCH {
         return None;
     }
     Some(a.branch_target(units::bits(h, 0, 8)))

@@ -5,4 +5,4 @@ mod branch;
 mod marks;
 
 pub use branch::jump;
-pub use marks::{is_marked, mark_target, set_mark};
+pub use marks::Marks;

@@ -9,7 +9,7 @@ use Rattle.lister.proofs.checker.check_code.Goals as goal
 
 pub loop-k-init : goal.loop-k-init
 unfolding first_no rows_below targeted_below
-loop-k-init c = (refl, record { words = c.requires.1.words; marked = λ j l. c.requires.1.none j })
+loop-k-init c = (refl, λ j l. c.requires.1 j)
 
 pub returns-in_err-check_at : goal.returns-in_err-check_at
 returns-in_err-check_at c =
@@ -25,7 +25,7 @@ pub loop-k-preserved : goal.loop-k-preserved
 loop-k-preserved c = (
   turn_passed c.args.code.now c.loop-k.k _ _ _ c.loop-k.invariant.0 c.from.ensures c.layout_for-layout.ensures refl
       c.check_at.ensures c.in_ok-check_at.was,
-  rw add-one (mark_next refl c.mark_target.ensures c.loop-k.invariant.1),
+  rw add-one (mark_next _ _ _ _ refl c.mark_target.ensures c.loop-k.invariant.1),
 )
 
 pub returns : goal.returns

@@ -1,7 +1,6 @@
 -- No line is longer than the room, and the line is what stands at its front.
 use Rattle.std.proofs.Common.{ℕ, ◌≡◌, ◌++◌, ap, arith, length, rules, take, ◌∙◌}
 use Rattle.isa.specs.Decode.{decode_of}
-use Rattle.text.specs.Writes.{Fits}
 use Rattle.text.proofs.Writing.{grew_front}
 use Rattle.lister.specs.List.{instruction_line}
 use Rattle.lister.proofs.Lines.{instruction_most}

@@ -1,5 +1,4 @@
 -- Before each turn what is written for the instructions so far stands at the front of the output.
-use Rattle.std.proofs.Common.{length, ◌≡◌}
 use Rattle.text.specs.Writes.{Grew}
 use Rattle.lister.specs.List.{listing_below}
 use Rattle.lister.proofs.writer.write.Given as goal
