@@ -1,10 +1,10 @@
 -- The line of a verdict ("Bench table", the program), as ASCII codes: `fit C W L` or `refused N P`.
-use Rattle.std.specs.Prelude.{[], ◌∷◌, ◌++◌, ◌≡◌, ℕ, ◌-◌, ◌≤◌, length, take, replicate, Result, Ok, Err}
+use Rattle.std.specs.Prelude.{[], ◌∷◌, ◌++◌, ℕ, Result, Ok, Err}
 use Rattle.text.specs.Text.{Text, decimal}
+use Rattle.refusals.specs.Check.{check_number}
 use Rattle.refusals.specs.Refusal.{place_number}
 use Rattle.refusals.specs.declared.refusal.Refusal.{Refusal}
 use Rattle.image.specs.declared.checker.Layout.{Layout}
-use Rattle.lines.specs.declared.writer.Line.{Line}
 
 -- a space and a number below 100,000 in decimal
 unfoldable pub number_text : ℕ → Text
@@ -23,7 +23,7 @@ fit_text layout =
 abbrev pub refused_text : Refusal → Text
 refused_text r =
     (114 ∷ 101 ∷ 102 ∷ 117 ∷ 115 ∷ 101 ∷ 100 ∷ [])
-    ++ number_text r.number
+    ++ number_text (check_number r.check)
     ++ number_text (place_number r.place)
     ++ (10 ∷ [])
 
@@ -31,19 +31,6 @@ abbrev pub verdict_text : Result Layout Refusal → Text
 verdict_text (Ok layout) = fit_text layout
 verdict_text (Err r) = refused_text r
 
--- the bytes of a line, whatever its text
-abbrev pub line_bytes : ℕ
-line_bytes = 32
-
 -- the longest line: `fit` and three numbers of five digits
 abbrev pub longest_line : ℕ
 longest_line = 22
-
--- the line of a text that has room in it: zeros follow the text
-unfoldable pub line_of : Text → Line
-line_of t = record { bytes = t ++ replicate (line_bytes - length t) 0; length = length t }
-
--- a line's text lies within its bytes. The second part follows from the first: Rattle's own proof of
--- `&bytes[..length]` asks both
-abbrev pub Within : Line → Type 0
-Within line = (line.length ≤ length line.bytes) × (line.length ≡ length (take line.length line.bytes))

@@ -2,7 +2,5 @@
 #![tactic(auto)]
 
 mod verdicts;
-mod writer;
 
 pub use verdicts::verdict_line;
-pub use writer::Line;

@@ -1,37 +1,51 @@
 // The lines of verdicts.
-ghost use Rattle.std.specs.Prelude.{◌≡◌, ◌≤◌};
-ghost use Rattle.lines.specs.Lines.{fit_text, refused_text, verdict_text, longest_line, line_of, Within};
+ghost use Rattle.std.specs.Prelude.{◌++◌, ◌≡◌, ◌+◌, ◌≤◌, length};
+ghost use Rattle.text.specs.Text.{line_bytes};
+ghost use Rattle.lines.specs.Lines.{number_text, fit_text, refused_text, verdict_text, longest_line};
 
-use super::writer::{Line, line_of, put, put_number};
 use image::Layout;
 use refusals::Refusal;
+use text::Line;
+
+// Adds a space and a number in decimal.
+#[tactic(auto, using(text::proofs::Writing::decimal_at_most), unfolding(crate::specs::Lines::number_text))]
+fn put_number(line: &mut Line, n: u16)
+    requires { length line.old + 6 ≤ line_bytes }
+    ensures text { line.new ≡ line.old ++ number_text n }
+    ensures long { length line.new ≤ length line.old + 6 }
+{
+    line.put(b' ');
+    line.put_decimal(n);
+}
 
 // `fit`, the code's length in bytes, the window's start and its length.
 fn fit_line(layout: Layout) -> Line
-    ensures { (result ≡ line_of (fit_text layout)) × (result.length ≤ longest_line) }
+    ensures { (result ≡ fit_text layout) × (length result ≤ longest_line) }
 {
-    let word = line_of(b"fit");
-    let code = put_number(word, layout.code_bytes);
-    let start = put_number(code, layout.window_start);
-    let window = put_number(start, layout.window_length);
-    put(window, b'\n')
+    let mut fit = Line::new();
+    fit.put_all(b"fit");
+    put_number(&mut fit, layout.code_bytes);
+    put_number(&mut fit, layout.window_start);
+    put_number(&mut fit, layout.window_length);
+    fit.put(b'\n');
+    fit
 }
 
 // `refused`, the number of the check that failed, and its place.
 fn refused_line(r: Refusal) -> Line
-    ensures { (result ≡ line_of (refused_text r)) × (result.length ≤ longest_line) }
+    ensures { (result ≡ refused_text r) × (length result ≤ longest_line) }
 {
-    let place = r.place;
-    let word = line_of(b"refused");
-    let number = put_number(word, r.number as u16);
-    let whole = put_number(number, u16::from(place));
-    put(whole, b'\n')
+    let mut refused = Line::new();
+    refused.put_all(b"refused");
+    put_number(&mut refused, u8::from(r.check) as u16);
+    put_number(&mut refused, u16::from(r.place));
+    refused.put(b'\n');
+    refused
 }
 
 // The line of a verdict, with its line end.
 pub fn verdict_line(v: Result<Layout, Refusal>) -> Line
-    ensures value { (result ≡ line_of (verdict_text v)) × (result.length ≤ longest_line) }
-    ensures within { Within result }
+    ensures { (result ≡ verdict_text v) × (length result ≤ longest_line) }
 {
     match v {
         Ok(layout) => fit_line(layout),

@@ -2,7 +2,7 @@
 use mathlib.Core.Bool.{Bool, true, false, cond}
 use mathlib.Core.List.{List}
 use mathlib.Core.Path.{◌≡◌, refl, sym, ap, ◌∙◌}
-use Prim.Native.Nat.{ℕ, zero, suc, ◌+◌, ◌≤◌, ◌<◌}
+use Prim.Native.Nat.{ℕ, ◌+◌, ◌≤◌, ◌<◌}
 use native.Mathlib.Omega.{arith}
 use lib.ListN.{length, get_or}
 use Rattle.units.specs.Address.{byte_address_of}
@@ -17,11 +17,12 @@ use Rattle.image.specs.Format.{most_code}
 use Rattle.image.specs.declared.checker.Layout.{Layout}
 use Rattle.image.proofs.Answers.{refused_at, passed_too}
 use Rattle.targets.specs.Marks.{MarkedBelow}
-use Rattle.targets.specs.Targets.{address_of, decoded_at, jump_at, targeted}
-use Rattle.checks.specs.Questions.{stays_in_code, check13, answer_at}
+use Rattle.targets.specs.Targets.{address_of, decoded_at, targeted}
+use Rattle.checks.specs.Questions.{check13, answer_at}
 use Rattle.lister.specs.List.{layout_for, instruction_checks, checks_at}
-use Rattle.lister.specs.Passes.{number_of, CheckedAs}
-use Rattle.std.specs.Prelude.{Option, Some, None, Ok, Err}
+use Rattle.lister.specs.Passes.{found_in, CheckedAs}
+use Rattle.std.specs.Prelude.{Option, Some, None, Result, Ok, Err, ⊤}
+use Rattle.refusals.specs.Check.{outcome}
 
 -- a code of a length that is right ends at twice its length
 pub layout_is : (code : List ℕ) (end : ByteAddress) → end ≡ byte_address_of (record { 0 = length code })
@@ -31,57 +32,39 @@ layout_is code end there most =
     let twice : end.0 ≡ (layout_for code).code_bytes = ap (λ (a : ByteAddress). a.0) there ∙ omega arith in
     ap (λ (n : ℕ). record { code_bytes = n; window_start = 0; window_length = 0 }) twice
 
--- the number of a halfword's first no, by what it decodes to
-module _ (layout : Layout) (a : ByteAddress) {d e : (Option Instruction)} (is : d ≡ e) where
-  pub undefined_no : d ≡ None → 9 ≡ number_of layout a e
-  undefined_no u = sym (ap (number_of layout a) (sym is ∙ u))
-
-  pub defined_no : {i : Instruction} (t : Option ByteAddress) {r : ℕ} → d ≡ Some i → t ≡ jump_at a e
-      → r ≡ cond (stays_in_code layout t) 0 13 → r ≡ number_of layout a e
-  defined_no t u j p =
-      let q = sym is ∙ u in
-      p ∙ ap (λ (t : Option ByteAddress). cond (stays_in_code layout t) 0 13) (j ∙ ap (jump_at a) q)
-      ∙ sym (ap (number_of layout a) q)
-
--- what the number says is what the checks come to
+-- what the first check that fails says is what the checks come to
 row_is : (layout : Layout) (a : ByteAddress) (d : Option Instruction)
-    → answer_at a (number_of layout a d) ≡ first_no (instruction_checks layout a d)
+    → answer_at a (found_in layout a d) ≡ first_no (instruction_checks layout a d)
 unfolding first_no
 row_is layout a None = refl
 row_is layout a (Some i) = go (check13 layout a i)
   where
-    go : (t : Bool) → answer_at a (cond t 0 13) ≡ cond t (Ok tt) (Err (refusal_at check.Target a))
+    go : (t : Bool) → answer_at a (outcome check.Target t) ≡ cond t (Ok tt) (Err (refusal_at check.Target a))
     go true = refl
     go false = refl
 
-answer_of : (a : ByteAddress) (number : ℕ) → (number ≡ 0 → ⊥) → answer_at a number ≡ Err (refusal_at number a)
-answer_of a zero fails = absurd (fails refl)
-answer_of a (suc n) fails = refl
-
--- the instructions before instruction k have passed, and a number is what its own checks come to
-module _ (code : List ℕ) (k no h : ℕ) (layout : Layout) (a : ByteAddress)
-    (before : first_no (rows_below (checks_at code) k) ≡ (Ok tt)) (there : a ≡ address_of k)
+-- the instructions before instruction k have passed, and an answer is what its own checks come to
+module _ (code : List ℕ) (k h : ℕ) (layout : Layout) (a : ByteAddress)
+    (before : first_no (rows_below (checks_at code) k) ≡ Ok tt) (there : a ≡ address_of k)
     (lies : layout ≡ layout_for code)
-    (read : h ≡ get_or code k 0) (is : no ≡ number_of layout a (decode_of h)) where
-  answer_is : answer_at a no ≡ first_no (checks_at code k)
+    (read : h ≡ get_or code k 0) {r : Result ⊤ Refusal} (is : r ≡ answer_at a (found_in layout a (decode_of h))) where
+  answer_is : r ≡ first_no (checks_at code k)
   unfolding decoded_at
-  answer_is = rw (is, read, lies, there) (row_is (layout_for code) (address_of k) (decoded_at code k))
+  answer_is = is ∙ rw (read, lies, there) (row_is (layout_for code) (address_of k) (decoded_at code k))
 
-  pub turn_refused : (r : Refusal) → r ≡ refusal_at no a → (no ≡ 0 → ⊥) → k < length code
-      → Err r ≡ first_no (rows_below (checks_at code) (length code))
-  turn_refused r e n inside =
-      refused_at (checks_at code) k before (answer_at a no) answer_is (length code) r
-      (answer_of a no n ∙ ap Err (sym e)) inside
+  pub turn_refused : {e : Refusal} → r ≡ Err e → k < length code
+      → Err e ≡ first_no (rows_below (checks_at code) (length code))
+  turn_refused {e} was inside = refused_at (checks_at code) k before r answer_is (length code) e was inside
 
-  pub turn_passed : no ≡ 0 → first_no (rows_below (checks_at code) (k + 1)) ≡ (Ok tt)
-  turn_passed e = passed_too (checks_at code) k before (answer_at a no) answer_is (ap (answer_at a) e)
+  pub turn_passed : r ≡ Ok tt → first_no (rows_below (checks_at code) (k + 1)) ≡ Ok tt
+  turn_passed was = passed_too (checks_at code) k before r answer_is was
 
 -- all instructions have passed, and the marks are those of them all
 pub all_checked : (code : List ℕ) (n : ℕ) (marks : List ℕ) → length code ≤ most_code → n ≡ length code
-    → first_no (rows_below (checks_at code) n) ≡ (Ok tt) → MarkedBelow code n marks → CheckedAs code (Ok tt) marks
+    → first_no (rows_below (checks_at code) n) ≡ Ok tt → MarkedBelow code n marks → CheckedAs code (Ok tt) marks
 unfolding targeted
 all_checked code n marks fits e passed below =
     record {
       is = rw e at (sym passed);
-      marked = record { fits = fits; marked = λ j l. rw e at (below.marked j l) };
+      marked = record { fits = fits; marked = λ j l. rw e at (below j l) };
     }

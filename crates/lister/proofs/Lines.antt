@@ -1,13 +1,14 @@
 -- Instructions' lines as they are written, and how long they are.
-use mathlib.Core.Bool.{Bool, true, false, cond, not}
+use mathlib.Core.Bool.{Bool, true, false, cond}
 use mathlib.Core.List.{List, [], ◌∷◌, ◌++◌, append_assoc, append-nil}
-use mathlib.Core.Path.{◌≡◌, refl, sym, ap, ◌∙◌, subst}
+use mathlib.Core.Path.{◌≡◌, refl, sym, ap, ◌∙◌}
 use Prim.Native.Char.{code}
 use Prim.Native.Nat.{ℕ, zero, suc, ◌+◌, ◌*◌, ◌/◌, ◌<◌, ◌≤◌}
 use native.Mathlib.Omega.{arith}
-use borrow.Author.Tests.{ne_eqb, ltb-true}
-use lib.Dec.{T, T_not, eqb, ltb}
+use borrow.Author.Tests.{ltb-true}
+use lib.Dec.{eqb, eqb→eq, ltb}
 use lib.ListN.{length, get_or, length-append}
+use Rattle.std.proofs.Common.{Option, Some, None}
 use Rattle.units.proofs.Every as Every
 use Rattle.units.specs.Address.{branch_target_of}
 use Rattle.units.specs.Field.{field, high_rs, high_rd}
@@ -27,11 +28,10 @@ use Rattle.text.proofs.Writing.{decimal_at_most, one_digit, two_at_most, three_a
 use Rattle.syntax.specs.Syntax.{condition_word, register_word, slot_word, fill}
 use Rattle.text.proofs.Words.{same_text}
 use Rattle.lister.specs.List.{label_line, instruction_line}
-use Rattle.lister.specs.Lines.{branch_names, mnemonic, name_in, four_letters, named_line, comma, mark, note_text}
+use Rattle.lister.specs.Lines.{branch_names, mnemonic, name_in, named_line, comma, mark, note_text}
 use Rattle.lister.specs.Lines.{immediate_text, pair_text, transfer_text, add_pc_text, target_text, registers_text}
 use Rattle.lister.specs.Lines.{memory_text, operands_at, operands_of}
 use Rattle.lister.proofs.Lengths.{last_sum, immediate_sum, pair_sum, place_sum, transfer_sum, add_pc_sum}
-use Rattle.std.specs.Prelude.{Option, Some, None}
 
 -- a line by its pattern is what is written: its first characters, and the texts one behind another
 abbrev end : Text
@@ -76,30 +76,13 @@ pub label_sum : (t : Bool) (a : ByteAddress) → t ≡ true → length (label_li
 label_sum t a e = omega (arith, ap length (label_is t a e), length-append (decimal a.0) (code ":" ∷ end))
 
 -- a branch's first characters
-branch_name : (c : ℕ) → c < 14 → four_letters (get_or branch_names c 0) ≡ code "B" ∷ (condition_word c ++ quoted " ")
+branch_name : (c : ℕ) → c < 14 → get_or branch_names c [] ≡ code "B" ∷ (condition_word c ++ quoted " ")
 branch_name c h =
     same_text _ _ (Every.at
-    (λ k. is_same_text (four_letters (get_or branch_names k 0)) (code "B" ∷ (condition_word k ++ quoted " "))) 14 tt c
-    h)
+    (λ k. is_same_text (get_or branch_names k []) (code "B" ∷ (condition_word k ++ quoted " "))) 14 tt c h)
 
-branch_some : (c : ℕ) → c < 14 → get_or branch_names c 0 ≡ 0 → ⊥
-branch_some c h e =
-    T_not (eqb (get_or branch_names c 0) 0) (Every.at (λ k. not (eqb (get_or branch_names k 0) 0)) 14 tt c h)
-    (subst (λ (n : ℕ). T (eqb n 0)) (sym e) tt)
-
--- a name that is none, and one that is
-named_none : (name : ℕ) (t : Text) → name ≡ 0 → named_line name t ≡ []
-named_none name t e = rw e
-
-named_some : (name : ℕ) (t : Text) → (name ≡ 0 → ⊥) → named_line name t ≡ four_letters name ++ t
-named_some name t f = simp (ne_eqb name 0 f)
-
-named_most : (name : ℕ) (t : Text) → length (named_line name t) ≤ 4 + length t
-named_most name t = go (eqb name 0)
-  where
-    go : (b : Bool) → length (cond b [] (four_letters name ++ t)) ≤ 4 + length t
-    go true = omega arith
-    go false = omega arith
+branch_four : (c : ℕ) → c < 14 → length (get_or branch_names c []) ≡ 4
+branch_four c h = eqb→eq _ _ (Every.at (λ k. eqb (length (get_or branch_names k [])) 4) 14 tt c h)
 
 -- how many labels an instruction can bring about
 abbrev pub jumps : Option ByteAddress → ℕ
@@ -116,9 +99,9 @@ no_line : (a : ByteAddress) (t : Text) → Line a t None
 no_line a t = record { line = refl; room = omega arith }
 
 plain : (a : ByteAddress) (t : Text) (i : Instruction) → jump_of a i ≡ None → length t ≤ 15
-    → instruction_line a (Some i) ≡ named_line (mnemonic i) t → Line a t (Some i)
-plain a t i still short is =
-    record { line = is; room = omega (arith, ap length is, named_most (mnemonic i) t, ap jumps still) }
+    → length (mnemonic i) ≡ 4 → instruction_line a (Some i) ≡ mnemonic i ++ t → Line a t (Some i)
+plain a t i still short four is =
+    record { line = is; room = omega (arith, ap length is, length-append (mnemonic i) t, four, ap jumps still) }
 
 -- what holds of each entry of a table, one below the other
 infixr 5 ◌▸◌
@@ -141,7 +124,7 @@ module _ (a : ByteAddress) (h : ℕ) where
   halt_line =
       let n = field h 0 8 in
       keeps_only (note_text n) (ltb h 256) (Some (Halt n))
-      (plain a (note_text n) (Halt n) refl (omega (arith, last_sum n, decimal_at_most n))
+      (plain a (note_text n) (Halt n) refl (omega (arith, last_sum n, decimal_at_most n)) refl
       (one_joins (quoted "HALT #") (decimal n)))
 
   imm_line : Line a (immediate_text (field h 8 3) (field h 0 8)) (imm_of h)
@@ -152,17 +135,17 @@ module _ (a : ByteAddress) (h : ℕ) where
       let t = immediate_text r n in
       let short : length t ≤ 15 = omega (arith, immediate_sum r n, last_sum n, decimal_at_most r, decimal_at_most n) in
       keeps_entry t (imm_table h) (field h 11 2)
-      (plain a t (MovImm r n) refl short (immediate_joins (quoted "MOV ") (register_word r) (decimal n))
-      ▸ plain a t (CmpImm r n) refl short (immediate_joins (quoted "CMP ") (register_word r) (decimal n)) ▸ tt)
+      (plain a t (MovImm r n) refl short refl (immediate_joins (quoted "MOV ") (register_word r) (decimal n))
+      ▸ plain a t (CmpImm r n) refl short refl (immediate_joins (quoted "CMP ") (register_word r) (decimal n)) ▸ tt)
 
   -- two registers behind the characters s
   module _ (rd rs : ℕ) where
     pair_line : (s : Text) (i : Instruction) → jump_of a i ≡ None
         → instruction_line a (Some i) ≡ (s ++ (register_word rd ++ (comma ++ (register_word rs ++ [])))) ++ end
-        → s ++ pair_text rd rs ≡ named_line (mnemonic i) (pair_text rd rs) → Line a (pair_text rd rs) (Some i)
-    pair_line s i still is named =
-        plain a (pair_text rd rs) i still (omega (arith, pair_sum rd rs, decimal_at_most rd, decimal_at_most rs))
-        (is ∙ pair_joins s (register_word rd) (register_word rs) ∙ named)
+        → length (mnemonic i) ≡ 4 → s ≡ mnemonic i → Line a (pair_text rd rs) (Some i)
+    pair_line s i still is four named =
+        plain a (pair_text rd rs) i still (omega (arith, pair_sum rd rs, decimal_at_most rd, decimal_at_most rs)) four
+        (is ∙ pair_joins s (register_word rd) (register_word rs) ∙ ap (λ (w : Text). w ++ pair_text rd rs) named)
 
   alu_line : Line a (pair_text (field h 0 3) (field h 3 3)) (alu_of h)
   unfolding fill slot_word
@@ -170,23 +153,23 @@ module _ (a : ByteAddress) (h : ℕ) where
       let rd = field h 0 3 in
       let rs = field h 3 3 in
       keeps_entry (pair_text rd rs) (alu_table h) (field h 6 4)
-      (pair_line rd rs (quoted "AND ") (And rs rd) refl refl refl
-      ▸ pair_line rd rs (quoted "EOR ") (Eor rs rd) refl refl refl
-      ▸ pair_line rd rs (quoted "ASR ") (Asr rs rd) refl refl refl
-      ▸ pair_line rd rs (quoted "TST ") (Tst rs rd) refl refl refl
-      ▸ pair_line rd rs (quoted "NEG ") (Neg rs rd) refl refl refl
-      ▸ pair_line rd rs (quoted "CMP ") (Cmp rs rd) refl refl refl ▸ tt)
+      (pair_line rd rs (quoted "AND ") (And rs rd) refl refl refl refl
+      ▸ pair_line rd rs (quoted "EOR ") (Eor rs rd) refl refl refl refl
+      ▸ pair_line rd rs (quoted "ASR ") (Asr rs rd) refl refl refl refl
+      ▸ pair_line rd rs (quoted "TST ") (Tst rs rd) refl refl refl refl
+      ▸ pair_line rd rs (quoted "NEG ") (Neg rs rd) refl refl refl refl
+      ▸ pair_line rd rs (quoted "CMP ") (Cmp rs rd) refl refl refl refl ▸ tt)
 
   high_line : Line a (pair_text (high_rd h) (high_rs h)) (high_of h)
   unfolding fill slot_word
   high_line =
       let rd = high_rd h in
       let rs = high_rs h in
-      let compare = pair_line rd rs (quoted "CMP ") (CmpHigh rs rd) refl refl refl in
+      let compare = pair_line rd rs (quoted "CMP ") (CmpHigh rs rd) refl refl refl refl in
       keeps_entry (pair_text rd rs) (high_table h) (field h 8 2)
-      (pair_line rd rs (quoted "ADD ") (AddHigh rs rd) refl refl refl
+      (pair_line rd rs (quoted "ADD ") (AddHigh rs rd) refl refl refl refl
       ▸ keeps_only (pair_text rd rs) (ltb 0 (field h 6 2)) (Some (CmpHigh rs rd)) compare
-      ▸ pair_line rd rs (quoted "MOV ") (MovHigh rs rd) refl refl refl ▸ tt)
+      ▸ pair_line rd rs (quoted "MOV ") (MovHigh rs rd) refl refl refl refl ▸ tt)
 
   registers_line : Line a (registers_text h) (registers_of h)
   registers_line = go (field h 10 3)
@@ -205,9 +188,10 @@ module _ (a : ByteAddress) (h : ℕ) where
         ≡ (s ++ (register_word rd ++ (quoted ", [" ++
         (register_word rb ++ (quoted ", #" ++ (decimal n ++ quoted "]"))))))
         ++ end
-        → s ++ transfer_text rd rb n ≡ named_line (mnemonic i) (gap ++ transfer_text rd rb n)
+        → length (mnemonic i) ≡ 4
+        → s ++ transfer_text rd rb n ≡ mnemonic i ++ (gap ++ transfer_text rd rb n)
         → Line a (gap ++ transfer_text rd rb n) (Some i)
-    transfer_line s gap i few still is named =
+    transfer_line s gap i few still is four named =
         plain a (gap ++ transfer_text rd rb n) i still
         (omega (
           arith,
@@ -217,6 +201,7 @@ module _ (a : ByteAddress) (h : ℕ) where
           low_digit rd low,
           low_digit rb base,
         ))
+        four
         (is ∙ transfer_joins s (register_word rd) (register_word rb) (decimal n) ∙ named)
 
   memory_at : (rd rb n : ℕ) → rd < 8 → rb < 8 → n < 32 → (k : ℕ)
@@ -225,16 +210,16 @@ module _ (a : ByteAddress) (h : ℕ) where
   unfolding fill slot_word
   memory_at rd rb n low base small zero =
       transfer_line rd rb (4 * n) low base (quoted "STR ") [] (Str n rb rd)
-      (omega (arith, three_at_most (4 * n) (omega arith))) refl refl refl
+      (omega (arith, three_at_most (4 * n) (omega arith))) refl refl refl refl
   memory_at rd rb n low base small (suc zero) =
       transfer_line rd rb (4 * n) low base (quoted "LDR ") [] (Ldr n rb rd)
-      (omega (arith, three_at_most (4 * n) (omega arith))) refl refl refl
+      (omega (arith, three_at_most (4 * n) (omega arith))) refl refl refl refl
   memory_at rd rb n low base small (suc (suc zero)) =
       transfer_line rd rb n low base (quoted "STRB ") (quoted " ") (Strb n rb rd)
-      (omega (arith, two_at_most n (omega arith))) refl refl refl
+      (omega (arith, two_at_most n (omega arith))) refl refl refl refl
   memory_at rd rb n low base small (suc (suc (suc zero))) =
       transfer_line rd rb n low base (quoted "LDRB ") (quoted " ") (Ldrb n rb rd)
-      (omega (arith, two_at_most n (omega arith))) refl refl refl
+      (omega (arith, two_at_most n (omega arith))) refl refl refl refl
   memory_at rd rb n low base small (suc (suc (suc (suc k)))) = no_line a _
 
   memory_line : Line a (memory_text h) (memory_of h)
@@ -252,19 +237,18 @@ module _ (a : ByteAddress) (h : ℕ) where
       let short : length t ≤ 15
       = omega (arith, add_pc_sum r imm, last_sum (4 * imm), low_digit r (omega arith), decimal_at_most (4 * imm)) in
       keeps_only t (eqb (field h 11 2) 0) (Some (AddPc r imm))
-      (plain a t (AddPc r imm) refl short (add_pc_joins (quoted "ADD ") (register_word r) (decimal (4 * imm))))
+      (plain a t (AddPc r imm) refl short refl (add_pc_joins (quoted "ADD ") (register_word r) (decimal (4 * imm))))
 
   -- a branch, by its condition
   module _ (c offset : ℕ) where
     abbrev aim : Text
     aim = target_text (branch_target_of a offset)
 
-    branch_is : c < 14 → instruction_line a (Some (Branch c offset)) ≡ named_line (get_or branch_names c 0) aim
+    branch_is : c < 14 → instruction_line a (Some (Branch c offset)) ≡ get_or branch_names c [] ++ aim
     unfolding fill slot_word
     branch_is l =
         branch_joins (condition_word c) (decimal (branch_target_of a offset).0)
         ∙ ap (λ (s : Text). s ++ aim) (sym (branch_name c l))
-        ∙ sym (named_some (get_or branch_names c 0) aim (branch_some c l))
 
     branch_at : (b : Bool) → ltb c 14 ≡ b → Line a aim (only b (Some (Branch c offset)))
     branch_at true e =
@@ -276,7 +260,8 @@ module _ (a : ByteAddress) (h : ℕ) where
               omega (
                 arith,
                 ap length is,
-                named_most (get_or branch_names c 0) aim,
+                length-append (get_or branch_names c []) aim,
+                branch_four c (ltb-true c 14 e),
                 last_sum address,
                 decimal_at_most address,
               );
@@ -319,11 +304,7 @@ lines_most t a h = omega (arith, label_most t a, instruction_most a h, one_most 
     one_most false = omega arith
 
 -- the line of a halfword, by its name
-module _ (a : ByteAddress) (h : ℕ) {name : ℕ} (is : name ≡ name_in (decode_of h)) where
-  pub undefined_line : name ≡ 0 → instruction_line a (decode_of h) ≡ []
-  undefined_line e = (instruction_line_is a h).line ∙ named_none (name_in (decode_of h)) (operands_of a h) (sym is ∙ e)
-
-  pub defined_line : (name ≡ 0 → ⊥) → instruction_line a (decode_of h) ≡ four_letters name ++ operands_of a h
-  defined_line f =
-      (instruction_line_is a h).line ∙ ap (λ (n : ℕ). named_line n (operands_of a h)) (sym is)
-      ∙ named_some name (operands_of a h) f
+pub line_by_name : (a : ByteAddress) (h : ℕ) {name : Option Text} → name ≡ name_in (decode_of h)
+    → instruction_line a (decode_of h) ≡ named_line name (operands_of a h)
+line_by_name a h is =
+    (instruction_line_is a h).line ∙ ap (λ (n : Option Text). named_line n (operands_of a h)) (sym is)

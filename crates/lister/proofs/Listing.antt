@@ -1,7 +1,7 @@
 -- A listing, instruction by instruction.
 use mathlib.Core.Bool.{Bool}
 use mathlib.Core.List.{List}
-use mathlib.Core.Path.{◌≡◌, refl, ap, ◌∙◌}
+use mathlib.Core.Path.{◌≡◌, refl, sym, ap, ◌∙◌}
 use Prim.Native.Nat.{ℕ, zero, suc, ◌+◌, ◌*◌, ◌≤◌, ◌<◌}
 use native.Mathlib.Decide.{le_ind}
 use native.Mathlib.Numerals.{add-one}
@@ -13,8 +13,9 @@ use Rattle.units.specs.declared.address.InstructionIndex.{InstructionIndex}
 use Rattle.isa.specs.Decode.{decode_of}
 use Rattle.image.specs.Format.{most_code}
 use Rattle.targets.specs.Targets.{address_of, decoded_at, targeted, marked_at}
-use Rattle.text.specs.Text.{Text, written}
-use Rattle.text.proofs.Writing.{written_more, written_length}
+use Rattle.text.specs.Writes.{Fits, Grew}
+use Rattle.text.specs.declared.writer.Writer.{Writer}
+use Rattle.text.proofs.Writing.{grew_as, ◌then◌}
 use Rattle.lister.specs.List.{label_line, instruction_line, lines_at, listing_below, listing_of}
 use Rattle.lister.specs.Passes.{lines_with, Labelled}
 use Rattle.lister.proofs.Lines.{lines_most}
@@ -67,38 +68,24 @@ module _ (code marks : List ℕ) (is : Labelled code marks) (k : ℕ) (inside : 
       omega (arith, measured_more n r e f, listing_most code (k + 1), number_small)
 
   -- it is written behind the listing so far
-  module _ (out : Text) (room : length (listing_of code) ≤ length out) (at : ℕ) (now : Text)
-      (e : at ≡ length (listing_below code k)) (f : now ≡ written 0 (listing_below code k) out) where
-    pub lines_fit : at + length (lines_with (marked_at marks k) (address_of k) (decode_of (get_or code k 0))) ≤ length
-        now
-    lines_fit =
-        let long : length now ≡ length out = ap length f ∙ written_length 0 (listing_below code k) out in
-        let all : at + length (lines_with (marked_at marks k) (address_of k) (decode_of (get_or code k 0)))
-        ≡ length (listing_below code (k + 1)) = measured_more at _ e refl in
-        omega (arith, listing_grows code (k + 1) (length code) (omega arith))
+  module _ {before now : Writer} (g : Grew (listing_below code k) before now) where
+    pub lines_fit : before.at + length (listing_of code) ≤ length before.room.now
+        → Fits (lines_with (marked_at marks k) (address_of k) (decode_of (get_or code k 0))) now
+    lines_fit room =
+        let all = measured_more _ _ refl refl in
+        omega (arith, g.place, g.kept, all, listing_grows code (k + 1) (length code) (omega arith))
 
-    pub written_next : (r : ℕ) (end : Text)
-        → (r ≡ at + length (lines_with (marked_at marks k) (address_of k) (decode_of (get_or code k 0))))
-        × (end ≡ written at (lines_with (marked_at marks k) (address_of k) (decode_of (get_or code k 0))) now)
-        → (r ≡ length (listing_below code (k + 1))) × (end ≡ written 0 (listing_below code (k + 1)) out)
+    pub lines_next : {after : Writer}
+        → Grew (lines_with (marked_at marks k) (address_of k) (decode_of (get_or code k 0))) now after
+        → Grew (listing_below code (k + 1)) before after
     unfolding listing_below
-    written_next r end put =
-        let behind : at ≡ 0 + length (listing_below code k) = omega arith in (
-          put.0 ∙ measured_more at _ e refl,
-          put.1 ∙ rw (lines_are, behind, f, add-one) (written_more 0 (listing_below code k) (lines_at code k) out),
-        )
+    lines_next p = rw add-one (g then grew_as (sym lines_are) p)
 
 -- label and line, at the address and with the mark of instruction i
 module _ (marks : List ℕ) (i : InstructionIndex) (a : ByteAddress) (there : a ≡ byte_address_of i) (t : Bool)
     (told : t ≡ marked_at marks i.0) (d : Option Instruction) where
   pub lines_told : lines_with t a d ≡ lines_with (marked_at marks i.0) (byte_address_of i) d
   lines_told = rw (there, told) refl
-
-  pub lines_inside : (at : ℕ) (room : Text)
-      → at + length (lines_with (marked_at marks i.0) (byte_address_of i) d) ≤ length room
-      → at + (length (label_line t a) + length (instruction_line a d)) ≤ length room
-  lines_inside at room h =
-      omega (arith, ap length lines_told, length-append (label_line t a) (instruction_line a d))
 
 -- their length
 pub lines_short : (t : Bool) (a : ByteAddress) (h : ℕ) → length (lines_with t a (decode_of h)) ≤ 27

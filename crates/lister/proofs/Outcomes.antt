@@ -1,29 +1,24 @@
 -- What the lister's checks come to, and what stands in the output.
 use mathlib.Core.Bool.{Bool, true, false, not, cond}
 use mathlib.Core.List.{List, [], ◌∷◌, ◌++◌}
-use mathlib.Core.Path.{◌≡◌, refl, sym, ap, ap₂, ◌∙◌}
-use Prim.Native.Nat.{ℕ, zero, suc, ◌+◌, ◌-◌, ◌≤◌}
+use mathlib.Core.Path.{◌≡◌, refl, sym, ap, ◌∙◌}
+use Prim.Native.Nat.{ℕ, ◌+◌, ◌≤◌}
 use native.Mathlib.Omega.{arith}
 use borrow.Author.Tests.{leb-true, not-true, not-false}
 use lib.Dec.{leb}
-use lib.ListN.{length, drop, replicate, length-append, length-drop, length-replicate}
-use lib.Seq.{sets-eq, length-take-le}
+use lib.ListN.{length, drop, length-append, length-drop}
+use lib.Seq.{sets-eq}
 use Rattle.refusals.specs.declared.check.Check.TheVariants as check
 use Rattle.refusals.specs.Refusal.{refusal}
 use Rattle.refusals.specs.declared.refusal.Refusal.{Refusal}
 use Rattle.image.specs.Check.{first_no, rows_below, whole}
 use Rattle.image.specs.Format.{most_code}
 use Rattle.image.proofs.Answers.{or_else, first_append, passed_head}
-use Rattle.targets.specs.Marks.{Unmarked}
-use Rattle.targets.specs.Targets.{mark_words}
-use Rattle.targets.proofs.Bits.{none_marked}
 use Rattle.text.specs.Text.{Text, written}
 use Rattle.text.proofs.Words.{and_right}
 use Rattle.lister.specs.List.{check15, checks_at, check16, listing_of, Listing, Lists, Refuses, listing_as, list_of}
 use Rattle.lister.specs.List.{listed_as, output_after}
 use Rattle.lister.specs.Passes.{fitted_of}
-use Rattle.lister.specs.Show.{line_bytes, line_of, Within}
-use Rattle.lister.specs.declared.showing.Line.{Line}
 use Rattle.std.specs.Prelude.{Result, Ok, Err, ⊤}
 
 -- a refusal is the answer, and leaves the output as it was
@@ -38,13 +33,10 @@ written_front t room h =
     let front : 0 + length t ≡ length t = omega arith in
     sets-eq t room 0 (omega arith) ∙ ap (λ (n : ℕ). t ++ drop n room) front
 
--- what a yes to check 15 says, and marks that are all 0
+-- what a yes to check 15 says
 pub program_fits : (code : List ℕ) (t : Bool) → t ≡ check15 code → not t ≡ false → length code ≤ most_code
 program_fits code t is held =
     leb-true (length code) most_code (and_right (leb 1 (length code)) _ (sym is ∙ not-false t held))
-
-pub none_yet : Unmarked (replicate mark_words 0)
-none_yet = record { words = length-replicate {A = ℕ} mark_words 0; none = none_marked }
 
 -- check 15
 module _ (code : List ℕ) (size : ℕ) where
@@ -101,29 +93,3 @@ after_length code out = go (check16 code (length out)) refl
         let long = leb-true (length (listing_of code)) (length out) e in
         simp (length-append, length-drop) (omega arith)
     go false e = refl
-
--- a line by itself
-drop_zeros : (k n : ℕ) → drop {A = ℕ} k (replicate n 0) ≡ replicate (n - k) 0
-drop_zeros zero n = let all : n ≡ n - 0 = omega arith in ap (λ (m : ℕ). replicate m 0) all
-drop_zeros (suc k) zero = let none : 0 ≡ 0 - suc k = omega arith in ap (λ (m : ℕ). replicate m 0) none
-drop_zeros (suc k) (suc n) =
-    let fewer : n - k ≡ suc n - suc k = omega arith in
-    drop_zeros k n ∙ ap (λ (m : ℕ). replicate m 0) fewer
-
-abbrev line : Text → ℕ → Line
-line bytes n = record { bytes = bytes; length = n }
-
-module _ (t : Text) (short : length t ≤ 19) (n : ℕ) (bytes : Text)
-    (put : (n ≡ 0 + length t) × (bytes ≡ written 0 t (replicate line_bytes 0))) where
-  bytes_are : bytes ≡ t ++ replicate (line_bytes - length t) 0
-  bytes_are =
-      put.1 ∙ written_front t (replicate line_bytes 0) (omega arith)
-      ∙ ap (λ (zeros : Text). t ++ zeros) (drop_zeros (length t) line_bytes)
-
-  pub shown : (line bytes n ≡ line_of t) × Within (line bytes n)
-  unfolding line_of
-  shown =
-      let count : n ≡ length t = omega (arith, put.0) in
-      let whole : length bytes ≡ line_bytes = rw bytes_are (simp (length-append, length-replicate) (omega arith)) in
-      let inside : n ≤ length bytes = omega arith in
-      (ap₂ line bytes_are count, (inside, sym (length-take-le n bytes inside)))

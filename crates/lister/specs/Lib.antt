@@ -1,4 +1,3 @@
 pub mod List
 pub mod Lines
 pub mod Passes
-pub mod Show

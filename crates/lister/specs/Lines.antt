@@ -1,6 +1,6 @@
 -- Instructions' lines as they are written: the first four characters tell the instruction, what follows goes by its
 -- format. Only the contracts of private functions speak of it.
-use Rattle.std.specs.Prelude.{cond, List, [], ◌∷◌, ◌++◌, ℕ, ◌+◌, ◌*◌, ◌/◌, ◌%◌, eqb, get_or, Option, Some, None}
+use Rattle.std.specs.Prelude.{cond, List, [], ◌∷◌, ◌++◌, Option, Some, None, ℕ, ◌*◌, eqb, get_or}
 use Prim.Native.Char.{code}
 use Rattle.units.specs.Address.{branch_target_of}
 use Rattle.units.specs.Field.{field, high_rs, high_rd}
@@ -12,56 +12,43 @@ use Rattle.isa.specs.declared.instruction.Instruction.TheVariants.{AddPc, Branch
 use Rattle.text.specs.Text.{Text, quoted, decimal, feed}
 use Rattle.syntax.specs.Syntax.{conditions, register_word}
 
--- characters as one number, the first the highest; and the characters of such a number
-abbrev pub letters_after : ℕ → Text → ℕ
-letters_after n [] = n
-letters_after n (c ∷ t) = letters_after (256 * n + c) t
-
-abbrev pub letters : Text → ℕ
-letters t = letters_after 0 t
-
-abbrev pub two_letters : ℕ → Text
-two_letters n = n / 256 ∷ n % 256 ∷ []
-
-abbrev pub four_letters : ℕ → Text
-four_letters n = two_letters (n / 65536) ++ two_letters (n % 65536)
-
 -- the first four characters of a line: of a branch its condition is among them
-abbrev pub branch_names_of : List Text → List ℕ
+abbrev pub branch_names_of : List Text → List Text
 branch_names_of [] = []
-branch_names_of (w ∷ ws) = letters (code "B" ∷ (w ++ (code " " ∷ []))) ∷ branch_names_of ws
+branch_names_of (w ∷ ws) = (code "B" ∷ (w ++ (code " " ∷ []))) ∷ branch_names_of ws
 
-abbrev pub branch_names : List ℕ
+abbrev pub branch_names : List Text
 branch_names = branch_names_of conditions
 
-abbrev pub mnemonic : Instruction → ℕ
-mnemonic (MovImm rd imm) = letters (quoted "MOV ")
-mnemonic (CmpImm rd imm) = letters (quoted "CMP ")
-mnemonic (And rs rd) = letters (quoted "AND ")
-mnemonic (Eor rs rd) = letters (quoted "EOR ")
-mnemonic (Asr rs rd) = letters (quoted "ASR ")
-mnemonic (Tst rs rd) = letters (quoted "TST ")
-mnemonic (Neg rs rd) = letters (quoted "NEG ")
-mnemonic (Cmp rs rd) = letters (quoted "CMP ")
-mnemonic (AddHigh rs rd) = letters (quoted "ADD ")
-mnemonic (CmpHigh rs rd) = letters (quoted "CMP ")
-mnemonic (MovHigh rs rd) = letters (quoted "MOV ")
-mnemonic (Str offset rb rd) = letters (quoted "STR ")
-mnemonic (Ldr offset rb rd) = letters (quoted "LDR ")
-mnemonic (Strb offset rb rd) = letters (quoted "STRB")
-mnemonic (Ldrb offset rb rd) = letters (quoted "LDRB")
-mnemonic (AddPc rd imm) = letters (quoted "ADD ")
-mnemonic (Branch condition offset) = get_or branch_names condition 0
-mnemonic (Halt note) = letters (quoted "HALT")
+abbrev pub mnemonic : Instruction → Text
+mnemonic (MovImm rd imm) = quoted "MOV "
+mnemonic (CmpImm rd imm) = quoted "CMP "
+mnemonic (And rs rd) = quoted "AND "
+mnemonic (Eor rs rd) = quoted "EOR "
+mnemonic (Asr rs rd) = quoted "ASR "
+mnemonic (Tst rs rd) = quoted "TST "
+mnemonic (Neg rs rd) = quoted "NEG "
+mnemonic (Cmp rs rd) = quoted "CMP "
+mnemonic (AddHigh rs rd) = quoted "ADD "
+mnemonic (CmpHigh rs rd) = quoted "CMP "
+mnemonic (MovHigh rs rd) = quoted "MOV "
+mnemonic (Str offset rb rd) = quoted "STR "
+mnemonic (Ldr offset rb rd) = quoted "LDR "
+mnemonic (Strb offset rb rd) = quoted "STRB"
+mnemonic (Ldrb offset rb rd) = quoted "LDRB"
+mnemonic (AddPc rd imm) = quoted "ADD "
+mnemonic (Branch condition offset) = get_or branch_names condition []
+mnemonic (Halt note) = quoted "HALT"
 
--- 0 for none
-abbrev pub name_in : Option Instruction → ℕ
-name_in (Some i) = mnemonic i
-name_in None = 0
+-- an undefined halfword has none
+abbrev pub name_in : Option Instruction → Option Text
+name_in (Some i) = Some (mnemonic i)
+name_in None = None
 
--- a line of these characters and what follows them; no line for 0
-abbrev pub named_line : ℕ → Text → Text
-named_line name t = cond (eqb name 0) [] (four_letters name ++ t)
+-- a line of these characters and what follows them; no line for none
+abbrev pub named_line : Option Text → Text → Text
+named_line (Some name) t = name ++ t
+named_line None t = []
 
 -- what follows, with the line feed
 abbrev pub comma : Text

@@ -1,5 +1,5 @@
 -- The lister's passes over a code. Only the contracts of private functions speak of it.
-use Rattle.std.specs.Prelude.{Bool, cond, List, [], ◌∷◌, ◌++◌, ◌≡◌, ℕ, ◌<◌, ◌≤◌, length}
+use Rattle.std.specs.Prelude.{Bool, List, [], ◌∷◌, ◌++◌, ◌≡◌, ℕ, ◌<◌, ◌≤◌, length}
 use Rattle.units.specs.declared.address.ByteAddress.{ByteAddress}
 use Rattle.image.specs.Check.{whole, first_no, rows_below}
 use Rattle.image.specs.Format.{most_code}

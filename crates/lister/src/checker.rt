@@ -4,7 +4,7 @@ ghost use Rattle.refusals.specs.Check.{outcome};
 ghost use Rattle.isa.specs.Decode.{decode_of};
 ghost use Rattle.image.specs.Format.{most_code};
 ghost use Rattle.targets.specs.Marks.{Unmarked};
-ghost use Rattle.checks.specs.Questions.{stays_in_code};
+ghost use Rattle.checks.specs.Questions.{stays_in_code, answer_at};
 ghost use Rattle.lister.specs.List.{layout_for};
 ghost use Rattle.lister.specs.Passes.{found_in, CheckedAs};
 
@@ -48,6 +48,13 @@ fn check_halfword(layout: Layout, a: ByteAddress, h: u16) -> Result<(), Check>
     }
 }
 
+// Checks 9 and 13 of the halfword at an address.
+fn check_at(layout: Layout, a: ByteAddress, h: u16) -> Result<(), Refusal>
+    ensures { result ≡ answer_at a (found_in layout a (decode_of h)) }
+{
+    check_halfword(layout, a, h).map_err(|check| Refusal::at(check, a))
+}
+
 // Checks 9 and 13 of a code, instruction by instruction, lowest address first.
 // Where nothing is marked yet and all pass, the marks are those of the code's
 // branch targets.
@@ -56,16 +63,10 @@ pub(crate) fn check_code(code: &[u16], marks: &mut Marks) -> Result<(), Refusal>
     ensures { CheckedAs code.now result marks.new }
 {
     let layout = layout_for(code);
-    let mut k = 0;
-    while k < code.len() {
-        let h = code[k];
+    for (k, &h) in code.iter().enumerate() {
         let i = InstructionIndex(k as u16);
-        let a = ByteAddress::from(i);
-        if let Err(check) = check_halfword(layout, a, h) {
-            return Err(Refusal::at(check, a));
-        }
+        check_at(layout, ByteAddress::from(i), h)?;
         marks.mark_target(i, h);
-        k += 1;
     }
     Ok(())
 }

@@ -3,7 +3,6 @@
 #![tactic(auto)]
 
 mod checker;
-mod letters;
 mod lister;
 mod names;
 mod operands;
@@ -11,4 +10,4 @@ mod showing;
 mod writer;
 
 pub use lister::list;
-pub use showing::{Line, instruction_line};
+pub use showing::instruction_line;

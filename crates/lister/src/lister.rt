@@ -13,10 +13,7 @@ use targets::Marks;
 fn is_program(code: &[u16]) -> bool
     ensures { result ≡ check15 code.now }
 {
-    if code.len() < 1 {
-        return false;
-    }
-    code.len() <= MOST_CODE
+    (1..=MOST_CODE).contains(&code.len())
 }
 
 // The most bytes that a listing has for each instruction: the longest line is that
@@ -29,10 +26,7 @@ fn has_room(code: &[u16], marks: &Marks, room: usize) -> bool
     requires { Labelled code.now marks.now }
     ensures { result ≡ check16 code.now room }
 {
-    if MOST_EACH * code.len() <= room {
-        return true;
-    }
-    measure(code, marks) <= room
+    MOST_EACH * code.len() <= room || measure(code, marks) <= room
 }
 
 // Check 16, and the listing.

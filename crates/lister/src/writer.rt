@@ -1,64 +1,54 @@
 // What is written for each instruction of a code: its label, if a branch goes
 // there, and its line.
-ghost use Rattle.std.specs.Prelude.{◌≡◌, ◌+◌, ◌*◌, ◌<◌, ◌≤◌, length};
+ghost use Rattle.std.specs.Prelude.{◌≡◌, ◌*◌, ◌<◌, ◌≤◌, length};
 ghost use Rattle.units.specs.Address.{byte_address_of};
 ghost use Rattle.isa.specs.Decode.{decode_of};
 ghost use Rattle.targets.specs.Targets.{mark_words, marked_at};
 ghost use Rattle.text.specs.Text.{written};
+ghost use Rattle.text.specs.Writes.{Fits, Grew};
 ghost use Rattle.lister.specs.List.{label_line, instruction_line, listing_of};
 ghost use Rattle.lister.specs.Passes.{lines_with, Labelled};
 
-use super::letters::{put_four, put_two};
 use super::names::name_of;
 use super::operands::put_operands;
 use targets::Marks;
-use text::{put, put_decimal};
+use text::Writer;
 use units::{ByteAddress, InstructionIndex};
 
 // The room of a label and a line: more than they have.
 const LINES_BYTES: usize = 32;
 
-fn put_label(out: &mut [u8], at: usize, a: ByteAddress, marked: bool) -> usize
-    requires { at + length (label_line marked a) ≤ length out.old }
-    ensures { (result ≡ at + length (label_line marked a))
-        × (out.new ≡ written at (label_line marked a) out.old) }
+fn put_label(out: &mut Writer<'_>, a: ByteAddress, marked: bool)
+    requires { Fits (label_line marked a) out.old }
+    ensures { Grew (label_line marked a) out.old out.new }
 {
-    if !marked {
-        return at;
+    if marked {
+        out.put(b'a');
+        out.put_decimal(a.0);
+        out.put_all(b":\n");
     }
-    let address = a.0;
-    let next = put(out, at, b'a');
-    let end = put_decimal(out, next, address);
-    put_two(out, end, 0x3a0a)
 }
 
 // The line of the halfword at an address; none for one that is undefined.
-pub(crate) fn put_instruction(out: &mut [u8], at: usize, a: ByteAddress, h: u16) -> usize
-    requires { at + length (instruction_line a (decode_of h)) ≤ length out.old }
-    ensures { (result ≡ at + length (instruction_line a (decode_of h)))
-        × (out.new ≡ written at (instruction_line a (decode_of h)) out.old) }
+pub(crate) fn put_instruction(out: &mut Writer<'_>, a: ByteAddress, h: u16)
+    requires { Fits (instruction_line a (decode_of h)) out.old }
+    ensures { Grew (instruction_line a (decode_of h)) out.old out.new }
 {
-    let name = name_of(h);
-    if name == 0 {
-        return at;
+    if let Some(name) = name_of(h) {
+        out.put_all(&name);
+        put_operands(out, a, h);
     }
-    let next = put_four(out, at, name);
-    put_operands(out, next, a, h)
 }
 
 // What is written for the halfword `h`, instruction `i`.
-fn put_lines(out: &mut [u8], at: usize, marks: &Marks, i: InstructionIndex, h: u16) -> usize
+fn put_lines(out: &mut Writer<'_>, marks: &Marks, i: InstructionIndex, h: u16)
     requires i_bound { i.0 < 64 * mark_words }
-    requires h_in_bounds { at + length (lines_with (marked_at marks.now i.0) (byte_address_of i) (decode_of h))
-        ≤ length out.old }
-    ensures { (result ≡ at + length (lines_with (marked_at marks.now i.0) (byte_address_of i) (decode_of h)))
-        × (out.new ≡ written at
-        (lines_with (marked_at marks.now i.0) (byte_address_of i) (decode_of h)) out.old) }
+    requires h_in_bounds { Fits (lines_with (marked_at marks.now i.0) (byte_address_of i) (decode_of h)) out.old }
+    ensures { Grew (lines_with (marked_at marks.now i.0) (byte_address_of i) (decode_of h)) out.old out.new }
 {
     let a = ByteAddress::from(i);
-    let marked = marks.is_marked(i);
-    let next = put_label(out, at, a, marked);
-    put_instruction(out, next, a, h)
+    put_label(out, a, marks.is_marked(i));
+    put_instruction(out, a, h);
 }
 
 // Its length: it is written, but not into the output.
@@ -68,7 +58,9 @@ fn lines_length(marks: &Marks, i: InstructionIndex, h: u16) -> usize
         (lines_with (marked_at marks.now i.0) (byte_address_of i) (decode_of h)) }
 {
     let mut lines = [0u8; LINES_BYTES];
-    put_lines(&mut lines, 0, marks, i, h)
+    let mut out = Writer::new(&mut lines);
+    put_lines(&mut out, marks, i, h);
+    out.at
 }
 
 // The length of a code's listing.
@@ -77,11 +69,8 @@ pub(crate) fn measure(code: &[u16], marks: &Marks) -> usize
     ensures { result ≡ length (listing_of code.now) }
 {
     let mut n = 0;
-    let mut k = 0;
-    while k < code.len() {
-        let h = code[k];
+    for (k, &h) in code.iter().enumerate() {
         n += lines_length(marks, InstructionIndex(k as u16), h);
-        k += 1;
     }
     n
 }
@@ -94,12 +83,9 @@ pub(crate) fn write(out: &mut [u8], code: &[u16], marks: &Marks) -> usize
     ensures { (result ≡ length (listing_of code.now))
         × (out.new ≡ written 0 (listing_of code.now) out.old) }
 {
-    let mut at = 0;
-    let mut k = 0;
-    while k < code.len() {
-        let h = code[k];
-        at = put_lines(out, at, marks, InstructionIndex(k as u16), h);
-        k += 1;
+    let mut text = Writer::new(out);
+    for (k, &h) in code.iter().enumerate() {
+        put_lines(&mut text, marks, InstructionIndex(k as u16), h);
     }
-    at
+    text.at
 }

@@ -1,21 +1,30 @@
--- One step of the scan for a line feed.
-use mathlib.Core.Path.{◌≡◌}
-use Prim.Native.Nat.{ℕ, ◌+◌, ◌<◌}
+-- Where the first line feed stands is how long the line is.
+use mathlib.Core.List.{[], ◌∷◌}
+use mathlib.Core.Path.{◌≡◌, refl, ap}
+use Prim.Native.Nat.{ℕ, zero, suc, ◌<◌}
 use native.Mathlib.Omega.{arith}
-use lib.ListN.{length, get_or, drop}
+use lib.ListN.{length, get_or}
 use borrow.Author.Tests.{eq-eqb, ne_eqb}
+use Rattle.std.proofs.Common.{◌≢◌, All}
+use Rattle.std.proofs.lemmas.List.Elements.{All-head, All-tail}
 use Rattle.text.specs.Text.{Text, feed, line_length}
-use Rattle.text.proofs.Scans.{rest, drop_end}
 
-module _ (t : Text) (i : ℕ) (h : i < length t) where
-  pub stops : get_or t i 0 ≡ feed → line_length (drop i t) ≡ 0
-  unfolding line_length
-  stops e = rw (rest t i h, eq-eqb (get_or t i 0) feed e)
+abbrev pub NoFeed : ℕ → Type 0
+NoFeed c = c ≢ feed
 
-  pub goes_on : (get_or t i 0 ≡ feed → ⊥) → line_length (drop i t) ≡ 1 + line_length (drop (i + 1) t)
-  unfolding line_length
-  goes_on e = rw (rest t i h, ne_eqb (get_or t i 0) feed e) (omega arith)
-
-pub over : (t : Text) (i : ℕ) → i ≡ length t → line_length (drop i t) ≡ 0
+-- the first one is character i
+pub line_to : (t : Text) (i : ℕ) → i < length t → get_or t i 0 ≡ feed → ((k : ℕ) → k < i → get_or t k 0 ≢ feed)
+    → line_length t ≡ i
 unfolding line_length
-over t i e = rw (drop_end t i e)
+line_to [] i inside here before = absurd (omega arith)
+line_to (c ∷ t) zero inside here before = simp (eq-eqb c feed here)
+line_to (c ∷ t) (suc i) inside here before =
+    simp (ne_eqb c feed (before zero (omega arith)))
+    (ap suc (line_to t i (omega arith) here (λ k l. before (suc k) (omega arith))))
+
+-- there is none
+pub line_whole : (t : Text) → All NoFeed t → line_length t ≡ length t
+unfolding line_length
+line_whole [] none = refl
+line_whole (c ∷ t) none =
+    simp (ne_eqb c feed (All-head NoFeed c t none)) (ap suc (line_whole t (All-tail NoFeed c t none)))

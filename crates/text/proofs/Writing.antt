@@ -1,14 +1,18 @@
 -- Texts written one behind the other, and how long decimals are.
-use mathlib.Core.Bool.{Bool, true, false, cond}
-use mathlib.Core.List.{[], ◌∷◌, ◌++◌}
-use mathlib.Core.Path.{◌≡◌, refl, ap, ◌∙◌}
-use Prim.Native.Nat.{ℕ, suc, ◌+◌, ◌/◌, ◌%◌, ◌<◌, ◌≤◌}
-use native.Mathlib.Omega.{arith}
-use lib.Dec.{ltb}
-use lib.ListN.{length, set, length-append}
-use lib.Seq.{length-sets}
+use Rattle.std.proofs.Common.{Bool, true, false, cond, [], ◌∷◌, ◌++◌, append_assoc, ◌≡◌, refl, sym, ap, ◌∙◌}
+use Rattle.std.proofs.Common.{ℕ, suc, ◌+◌, ◌-◌, ◌/◌, ◌%◌, ◌<◌, ◌≤◌, arith, length, take, drop, drop-drop}
+use Rattle.std.proofs.Common.{length-append, length-set}
+use Rattle.std.proofs.Math.Seq.{length-sets, take-append_seam}
+use Rattle.std.proofs.lemmas.List.{length-take-le}
+use Rattle.std.proofs.lemmas.List.Edits.{sets-eq}
 use borrow.Author.Tests.{lt-ltb, le-ltb}
+use borrow.Rule.Slice.Mut.{set_vals}
+use borrow.Rule.Slice.PartMut.{put_mid}
+use lib.Dec.{ltb}
+use lib.ListN.{set}
 use Rattle.text.specs.Text.{Text, digit, decimal, written}
+use Rattle.text.specs.Writes.{Fits, Grew}
+use Rattle.text.specs.declared.writer.Writer.{Writer}
 
 pub written_more : (at : ℕ) (s t room : Text) → written (at + length s) t (written at s room) ≡ written at (s ++ t) room
 unfolding written
@@ -21,39 +25,66 @@ pub written_length : (at : ℕ) (t room : Text) → length (written at t room) �
 unfolding written
 written_length at t room = length-sets room at t
 
--- a text was written from a place on: the place behind it, and the room afterwards
-pub record Wrote (at : ℕ) (t before : Text) (r : ℕ) (after : Text) : Type 0 where
-  pub place : r ≡ at + length t
-  pub room : after ≡ written at t before
-
-pub wrote : {at r : ℕ} {t before after : Text} → (r ≡ at + length t) × (after ≡ written at t before)
-    → Wrote at t before r after
-wrote p = record { place = p.0; room = p.1 }
-
 -- one byte
-pub wrote_byte : (at c : ℕ) (room : Text) → set room at c ≡ written at (c ∷ []) room
+pub grew_byte : (w : Writer) (c : ℕ)
+    → Grew (c ∷ []) w (record { room = set_vals (set w.room.now w.at c) w.room; at = w.at + 1 })
 unfolding written
-wrote_byte at c room = refl
+grew_byte w c = record { same = refl; place = refl; room = refl; kept = length-set w.room.now w.at c }
+
+-- a word at once
+word_written : (at k : ℕ) (t room : Text) → at + length t ≤ length room → k ≡ length t
+    → put_mid at k room t ≡ written at t room
+unfolding written
+word_written at k t room fits long =
+    let behind : drop k (drop at room) ≡ drop (at + length t) room =
+    drop-drop k at room ∙ ap (λ (n : ℕ). drop n room) (omega arith) in
+    sym (append_assoc (take at room) t (drop k (drop at room))) ∙ ap (λ (rest : Text). take at room ++ t ++ rest) behind
+    ∙ sym (sets-eq t room at fits)
+
+pub grew_word : (w : Writer) (t part : Text) → Fits t w → part ≡ t
+    → Grew t w
+    (record { room = set_vals (put_mid w.at (w.at + length t - w.at) w.room.now part) w.room; at = w.at + length t })
+grew_word w t part fits is =
+    let now = ap (put_mid w.at (w.at + length t - w.at) w.room.now) is
+    ∙ word_written w.at (w.at + length t - w.at) t w.room.now fits (omega arith) in
+    record { same = refl; place = refl; room = now; kept = ap length now ∙ written_length w.at t w.room.now }
 
 -- nothing
-pub wrote_none : (at : ℕ) (t room : Text) → t ≡ [] → Wrote at t room at room
+pub grew_none : (t : Text) (w : Writer) → t ≡ [] → Grew t w w
 unfolding written
-wrote_none at t room e = rw e (record { place = omega arith; room = refl })
+grew_none t w e = rw e (record { same = refl; place = omega arith; room = refl; kept = refl })
 
 -- a text by another name
-pub wrote_as : {at r : ℕ} {s t before after : Text} → t ≡ s → Wrote at s before r after → Wrote at t before r after
-wrote_as e w = rw e w
+pub grew_as : {s t : Text} {v w : Writer} → t ≡ s → Grew s v w → Grew t v w
+grew_as e g = rw e g
 
 -- one text behind another
 infixl 5 ◌then◌
-pub ◌then◌ : {at n r : ℕ} {s t before between after : Text} → Wrote at s before n between
-    → Wrote n t between r after → Wrote at (s ++ t) before r after
-◌then◌ {at} {n} {r} {s} {t} {before} {between} p q = record {
+pub ◌then◌ : {s t : Text} {u v w : Writer} → Grew s u v → Grew t v w → Grew (s ++ t) u w
+◌then◌ {s} {t} {u} {v} {w} p q = record {
+  same = q.same ∙ p.same;
   place = omega (arith, p.place, q.place, length-append s t);
   room =
-      q.room ∙ ap (λ (k : ℕ). written k t between) p.place ∙ ap (written (at + length s) t) p.room
-      ∙ written_more at s t before;
+      q.room ∙ ap (λ (k : ℕ). written k t v.room.now) p.place ∙ ap (written (u.at + length s) t) p.room
+      ∙ written_more u.at s t u.room.now;
+  kept = q.kept ∙ p.kept;
 }
+
+-- what stands at the front of the room, up to the place
+written_front : (at : ℕ) (t room : Text) → at + length t ≤ length room
+    → take (at + length t) (written at t room) ≡ take at room ++ t
+unfolding written
+written_front at t room fits =
+    let front = take at room ++ t in
+    let rest = drop (at + length t) room in
+    let long : at + length t ≡ length front =
+    omega (arith, length-append (take at room) t, length-take-le at room (omega arith)) in
+    ap (take (at + length t)) (sets-eq t room at fits) ∙ ap (λ (n : ℕ). take n (front ++ rest)) long
+    ∙ take-append_seam front rest
+
+pub grew_front : {t : Text} {v w : Writer} → Fits t v → Grew t v w
+    → take w.at w.room.now ≡ take v.at v.room.now ++ t
+grew_front {t} {v} fits g = rw (g.place, g.room) (written_front v.at t v.room.now fits)
 
 -- a digit that isn't there, and one that is
 pub digit_none : (n unit : ℕ) → n < unit → digit n unit ≡ []
@@ -72,15 +103,8 @@ pub decimal_sum : (n : ℕ)
 decimal_sum n = rw (length-append, length-append, length-append, length-append)
 
 -- what writing a digit leaves, where there is none and where there is one
-pub no_digit : (n unit at : ℕ) (room : Text) → n < unit → Wrote at (digit n unit) room at room
-no_digit n unit at room h = wrote_none at (digit n unit) room (digit_none n unit h)
-
-pub digit_is : (n unit : ℕ) → unit ≤ n → digit n unit ≡ (48 + n / unit % 10) ∷ []
-digit_is n unit h = simp (le-ltb n unit h)
-
-pub one_written : (n unit at r : ℕ) (before after : Text) → unit ≤ n
-    → Wrote at ((48 + n / unit % 10) ∷ []) before r after → Wrote at (digit n unit) before r after
-one_written n unit at r before after h e = rw (digit_is n unit h) e
+pub no_digit : (n unit : ℕ) (w : Writer) → n < unit → Grew (digit n unit) w w
+no_digit n unit w h = grew_none (digit n unit) w (digit_none n unit h)
 
 digit_at_most : (n unit : ℕ) → length (digit n unit) ≤ 1
 digit_at_most n unit = go (ltb n unit)
@@ -134,8 +158,3 @@ module _ (n : ℕ) where
         digit_at_most n 100,
         digit_at_most n 10,
       )
-
--- a number of one digit is written as that
-pub digit_written : (n : ℕ) {at r : ℕ} {before after : Text} → n < 10 → Wrote at ((48 + n) ∷ []) before r after
-    → Wrote at (decimal n) before r after
-digit_written n h w = wrote_as (one_digit n h) w

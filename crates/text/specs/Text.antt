@@ -109,3 +109,7 @@ line_length (c ∷ t) = let later = line_length t in cond (eqb c feed) 0 (suc la
 -- what a room holds after a text was written into it, byte by byte from a place on
 unfoldable pub written : ℕ → Text → Text → Text
 written at t room = sets room at t
+
+-- the bytes that one line has room for, when it is held by itself
+abbrev pub line_bytes : ℕ
+line_bytes = 32

@@ -2,9 +2,11 @@
 #![tactic(auto)]
 
 mod characters;
+mod line;
 mod scanner;
 mod writer;
 
 pub use characters::{in_name, is_digit, is_small};
+pub use line::{LINE_BYTES, Line};
 pub use scanner::{byte_at, line_end};
-pub use writer::{put, put_decimal};
+pub use writer::Writer;

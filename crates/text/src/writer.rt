@@ -1,50 +1,74 @@
 // Writing into a room, from a place on.
-ghost use Rattle.std.specs.Prelude.{[], ◌∷◌, ◌≡◌, ◌+◌, ◌≤◌, ◌<◌, length};
-ghost use Rattle.text.specs.Text.{digit, decimal, written};
+ghost use Rattle.std.specs.Prelude.{[], ◌∷◌, ◌≡◌, ◌<◌};
+ghost use Rattle.text.specs.Text.{digit, decimal};
+ghost use Rattle.text.specs.Writes.{Fits, Grew};
 
-// Writes a byte into a room, and answers the place behind it.
-pub fn put(room: &mut [u8], at: usize, c: u8) -> usize
-    requires { at < length room.old }
-    ensures { (result ≡ at + 1) × (room.new ≡ written at (c ∷ []) room.old) }
-{
-    room[at] = c;
-    at + 1
+// A room that is written from a place on. Writing moves the place on.
+#[derive(Drop)]
+pub struct Writer<'a> {
+    pub room: &'a mut [u8],
+    pub at: usize,
 }
 
-// Writes the digit of a power of ten, if the number is so large.
-fn put_digit(room: &mut [u8], at: usize, n: u16, unit: u16) -> usize
-    requires { (at + length (digit n unit) ≤ length room.old) × (0 < unit) }
-    ensures { (result ≡ at + length (digit n unit))
-        × (room.new ≡ written at (digit n unit) room.old) }
-{
-    if n < unit {
-        return at;
+impl<'a> Writer<'a> {
+    // At the front of a room.
+    pub fn new(room: &'a mut [u8]) -> Writer<'a>
+        ensures same { result.room.ghost_name ≡ room.entry.ghost_name }
+        ensures room { (result.room.now ≡ room.old) × (result.at ≡ 0) }
+    {
+        Writer { room, at: 0 }
     }
-    put(room, at, b'0' + (n / unit % 10) as u8)
-}
 
-// Writes the digits of a number, each that it has.
-fn put_digits(room: &mut [u8], at: usize, n: u16) -> usize
-    requires { at + length (decimal n) ≤ length room.old }
-    ensures { (result ≡ at + length (decimal n))
-        × (room.new ≡ written at (decimal n) room.old) }
-{
-    let first = put_digit(room, at, n, 10000);
-    let second = put_digit(room, first, n, 1000);
-    let third = put_digit(room, second, n, 100);
-    let fourth = put_digit(room, third, n, 10);
-    put(room, fourth, b'0' + (n % 10) as u8)
-}
-
-// Writes a number in decimal into a room from a place on, and answers the place
-// behind it. Most numbers of a listing have one digit.
-pub fn put_decimal(room: &mut [u8], at: usize, n: u16) -> usize
-    requires { at + length (decimal n) ≤ length room.old }
-    ensures { (result ≡ at + length (decimal n))
-        × (room.new ≡ written at (decimal n) room.old) }
-{
-    if n < 10 {
-        return put(room, at, b'0' + n as u8);
+    // Writes a byte.
+    pub fn put(&mut self, c: u8)
+        requires { Fits (c ∷ []) self.old }
+        ensures { Grew (c ∷ []) self.old self.new }
+    {
+        self.room[self.at] = c;
+        self.at += 1;
     }
-    put_digits(room, at, n)
+
+    // Writes the bytes of a word.
+    pub fn put_all(&mut self, word: &[u8])
+        requires { Fits word.now self.old }
+        ensures { Grew word.now self.old self.new }
+    {
+        let end = self.at + word.len();
+        self.room[self.at..end].copy_from_slice(word);
+        self.at = end;
+    }
+
+    // Writes the digit of a power of ten, if the number is so large.
+    fn put_digit(&mut self, n: u16, unit: u16)
+        requires { Fits (digit n unit) self.old × (0 < unit) }
+        ensures { Grew (digit n unit) self.old self.new }
+    {
+        if n >= unit {
+            self.put(b'0' + (n / unit % 10) as u8);
+        }
+    }
+
+    // Writes the digits of a number, each that it has.
+    fn put_digits(&mut self, n: u16)
+        requires { Fits (decimal n) self.old }
+        ensures { Grew (decimal n) self.old self.new }
+    {
+        self.put_digit(n, 10000);
+        self.put_digit(n, 1000);
+        self.put_digit(n, 100);
+        self.put_digit(n, 10);
+        self.put(b'0' + (n % 10) as u8);
+    }
+
+    // Writes a number in decimal. Most numbers of a listing have one digit.
+    pub fn put_decimal(&mut self, n: u16)
+        requires { Fits (decimal n) self.old }
+        ensures { Grew (decimal n) self.old self.new }
+    {
+        if n < 10 {
+            self.put(b'0' + n as u8);
+        } else {
+            self.put_digits(n);
+        }
+    }
 }

@@ -1,9 +1,6 @@
 -- The register, and the number behind it.
-use Rattle.text.proofs.Writing.{wrote, ◌then◌}
+use Rattle.text.proofs.Writing.{◌then◌}
 use Rattle.lister.proofs.operands.put_immediate.Goals as goal
 
 pub returns : goal.returns
-returns c =
-    let w = wrote c.put_register-first.ensures then wrote c.put_two-second.ensures then wrote
-    c.put-marked.ensures then wrote c.put_last.ensures in
-    (w.place, w.room)
+returns c = c.put_register.ensures then c.put_all.ensures then c.put.ensures then c.put_last.ensures

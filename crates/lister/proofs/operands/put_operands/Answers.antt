@@ -1,6 +1,6 @@
 -- The top three bits pick the format's text.
 use Rattle.std.proofs.Common.{◌≡◌, ap, arith, length}
-use Rattle.text.proofs.Writing.{wrote, wrote_as}
+use Rattle.text.proofs.Writing.{grew_as}
 use Rattle.lister.specs.Lines.{target_text, operands_of}
 use Rattle.lister.proofs.Formats.{operands_rest}
 use Rattle.lister.proofs.operands.put_operands.Goals as goal
@@ -19,5 +19,4 @@ returns-in_default c =
     rw (c.branch_target.ensures, c.bits-in_default.ensures)
     (operands_rest c.args.a c.args.h c.bits.ensures {B = Unit {0}}
     (((((tt, λ q. omega arith), λ q. omega arith), λ q. omega arith), λ q. omega arith), λ q. omega arith)) in
-    let w = wrote_as target (wrote c.put_target.ensures) in
-    (w.place, w.room)
+    grew_as target c.put_target.ensures

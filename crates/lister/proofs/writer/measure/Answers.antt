@@ -6,17 +6,15 @@ use Rattle.lister.proofs.writer.measure.Goals as goal
 
 pub loop-k-init : goal.loop-k-init
 unfolding listing_below
-loop-k-init c = (omega arith, refl)
+loop-k-init c = refl
 
 pub overflow_add-n : goal.overflow_add-n
 overflow_add-n c =
     omega (
       arith,
-      measured_small _ _ c.requires _ c.loop-k-test.true _ _ c.loop-k.invariant.1 c.lines_length-n.ensures,
+      measured_small _ _ c.requires _ c.loop-k-test.true _ _ c.loop-k.invariant c.lines_length-n.ensures,
     )
 
 pub loop-k-preserved : goal.loop-k-preserved
-loop-k-preserved c = (
-  omega arith,
-  measured_more _ _ c.requires _ c.loop-k-test.true _ _ c.loop-k.invariant.1 c.lines_length-n.ensures,
-)
+loop-k-preserved c =
+    measured_more _ _ c.requires _ c.loop-k-test.true _ _ c.loop-k.invariant c.lines_length-n.ensures
