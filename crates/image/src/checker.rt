@@ -120,14 +120,11 @@ fn has_window(block: &Block, window: u32) -> bool
 pub fn is_window(c: u16, w: u16, l: u16) -> bool
     ensures { result ≡ check8 c w l }
 {
-    w % 4 == 0
-        && l % 4 == 0
-        && 4 <= l
-        && c <= w
-        && (w as usize) + (l as usize) <= MEMORY_BYTES
+    w % 4 == 0 && l % 4 == 0 && 4 <= l && c <= w && (w as usize) + (l as usize) <= MEMORY_BYTES
 }
 
 // Checks 3 to 7 of block `k`, of so many blocks, where the first has this window.
+#[tactic(auto, unfolding(crate::specs::Check::first_no))]
 fn check_block(file: &[u8], k: u8, blocks: u8, window: u32) -> Result<(), Refusal>
     requires k_lt_blocks { (k < blocks) × (blocks ≡ blocks_in file.now) }
     requires window_is { WindowIs (block_of file.now 0) window }
@@ -196,6 +193,7 @@ fn check_layout(layout: Layout) -> Result<Layout, Refusal>
 
 // Puts checks 2 to 8 to a file of any bytes and any length. Each block is read
 // once for its sum.
+#[tactic(auto, unfolding(crate::specs::Check::check_of, crate::specs::Check::first_no, crate::specs::Check::check2))]
 pub fn check(file: &[u8]) -> Result<Layout, Refusal>
     ensures { result ≡ check_of file.now }
 {

@@ -1,5 +1,5 @@
 -- The first refusal stands.
-use Rattle.std.proofs.Common.{refl, rules}
+use Rattle.std.proofs.Common.{refl}
 use Rattle.std.proofs.lemmas.Result.{err_from_is_err_and}
 use Rattle.image.specs.Check.{first_no, rows_below}
 use Rattle.image.proofs.Answers.{refused_at, passed_too}
