@@ -4,7 +4,7 @@ use Rattle.units.specs.Field.{field}
 use Rattle.isa.specs.Decode.{registers_table}
 use Rattle.isa.proofs.Table.{entry_past}
 use Rattle.verifier.proofs.Walk.{not_known}
-use Rattle.verifier.proofs.visits.visit_registers.Goals as goal
+use Rattle.verifier.proofs.state.State.visit_registers.Goals as goal
 
 pub returns-in-0 : goal.returns-in-0
 returns-in-0 c layout a =

@@ -4,7 +4,7 @@ use Rattle.units.specs.Field.{field}
 use Rattle.isa.specs.Decode.{alu_table}
 use Rattle.isa.proofs.Table.{entry_past}
 use Rattle.verifier.proofs.Walk.{not_known}
-use Rattle.verifier.proofs.visits.visit_alu.Goals as goal
+use Rattle.verifier.proofs.state.State.visit_alu.Goals as goal
 
 pub returns-in_default : goal.returns-in_default
 returns-in_default c layout a =

@@ -3,7 +3,7 @@ use Rattle.std.proofs.Common.{◌≡◌, ℕ, ◌+◌, ◌*◌, ap, ◌∙◌, a
 use Rattle.units.specs.Field.{field}
 use Rattle.isa.specs.Decode.{entry, high_table, high_of}
 use Rattle.verifier.proofs.Walk.{as_known}
-use Rattle.verifier.proofs.visits.visit_high.Goals as goal
+use Rattle.verifier.proofs.state.State.visit_high.Goals as goal
 
 -- the operation's upper bit picks the table's entry: the lower one is asked before, and 0
 picks : (h k : ℕ) → field h 8 1 ≡ 0 → field h 9 1 ≡ k → high_of h ≡ entry (high_table h) (2 * k)
@@ -17,8 +17,8 @@ returns-then-bits-eq1-2 c layout a =
     let rd_is = c.high_rd-rd.ensures in
     as_known (picks c.args.h 1 (omega arith) (omega arith))
     (record {
-      number = c.check_write.ensures ∙ simp rd_is;
-      state = c.set_value.ensures ∙ simp (rd_is, c.value_at-s.ensures, c.high_rs.ensures);
+      found = c.check_write.ensures ∙ simp rd_is;
+      state = c.set.ensures ∙ simp (rd_is, c.get-s.ensures, c.high_rs.ensures);
     })
 
 pub returns : goal.returns
@@ -26,8 +26,8 @@ returns c layout a =
     let rd_is = c.high_rd-rd.ensures in
     as_known (picks c.args.h 0 (omega arith) (omega arith))
     (record {
-      number = c.check_write-2.ensures ∙ simp rd_is;
+      found = c.check_write-2.ensures ∙ simp rd_is;
       state =
-          c.set_value-2.ensures
-          ∙ simp (c.add.ensures, c.value_at-d.ensures, rd_is, c.value_at-s.ensures, c.high_rs.ensures);
+          c.set-2.ensures
+          ∙ simp (c.add.ensures, c.get-d.ensures, rd_is, c.get-s.ensures, c.high_rs.ensures);
     })
