@@ -9,18 +9,17 @@ use Rattle.units.specs.declared.address.InstructionIndex.{InstructionIndex}
 use Rattle.image.proofs.Valid.{code_halfword_is, valid_window, valid_code_bytes, code_in_file}
 use Rattle.image.specs.Check.{check_of}
 use Rattle.image.specs.Code.{code_position, code_of}
-use Rattle.image.specs.declared.checker.Checked.TheVariants.{Valid}
 use Rattle.image.specs.declared.checker.Layout.{Layout}
 use Rattle.verifier.specs.Verify.{verify_of}
-use Rattle.verifier.specs.declared.verifier.Verdict.TheVariants.{Fit}
+use Rattle.std.specs.Prelude.{Ok}
 use Rattle.verifier.proofs.Accepted.{count_is}
 use Rattle.verifier.proofs.Fit.{fit_checked}
 use Rattle.loader.specs.Copy.{IsCopied, cleared}
 use Rattle.loader.specs.Load.{loaded_memory}
 use Rattle.loader.proofs.Placed.{load_is}
 
-module _ (file : List ℕ) (layout : Layout) (fit : verify_of file ≡ Fit layout) where
-  valid : check_of file ≡ Valid layout
+module _ (file : List ℕ) (layout : Layout) (fit : verify_of file ≡ Ok layout) where
+  valid : check_of file ≡ Ok layout
   valid = fit_checked file layout fit
 
   pub window_fits : layout.window_start + layout.window_length ≤ memory_bytes

@@ -1,7 +1,6 @@
 -- What the checks of a halfword find, and what its row of checks comes to.
 use Rattle.std.specs.Prelude.{Bool, true, false, ◌≡◌, ℕ, [], ◌∷◌, Option, Some, None, Result, Ok, Err, ⊤}
-use Rattle.std.proofs.Common.{refl, sym, ◌∙◌}
-use Rattle.units.proofs.Cases.{clash}
+use Rattle.std.proofs.Common.{refl}
 use Rattle.units.specs.declared.address.ByteAddress.{ByteAddress}
 use Rattle.refusals.specs.declared.check.Check.{Check}
 use Rattle.refusals.specs.declared.check.Check.TheVariants as check

@@ -1,17 +1,17 @@
 // The abstract state: a word for each of R0 to R15, which holds the register's
 // abstract value. A word is read and written at once, where a struct in memory
 // would be written field by field.
-ghost use Rattle.std.specs.Prelude.{◌≡◌, ◌<◌, length, set};
-ghost use Rattle.checks.specs.State.{register_count, value};
-ghost use Rattle.verifier.specs.Words.{value_of, state_of};
+ghost use Rattle.std.specs.Prelude.{◌≡◌};
+ghost use Rattle.verifier.specs.Words.{value_of};
 
 use domain::Value;
+use std::marker::Model;
 
 // The machine has 16 registers.
-pub const REGISTERS: usize = 16;
+const REGISTERS: usize = 16;
 
 // The word of a value: its bounds in 16 bits each, and the count above them.
-pub(crate) fn word_of(v: Value) -> u64
+fn word_of(v: Value) -> u64
     ensures { value_of result ≡ v }
 {
     (v.low as u64) + (v.high as u64) * 0x10000 + (v.zeros as u64) * 0x100000000
@@ -28,20 +28,47 @@ fn value_of(word: u64) -> Value
     }
 }
 
-// The value of a register.
-pub(crate) fn value_at(state: &[u64; 16], r: u8) -> Value
-    requires { (length state.now ≡ register_count) × (r < register_count) }
-    ensures { result ≡ value (state_of state.now) r }
-{
-    let index = r as usize;
-    value_of(state[index])
+// What is known of each register. Contracts see the values, not the words.
+#[derive(Drop)]
+pub(crate) struct State {
+    words: [u64; REGISTERS],
 }
 
-// Gives a register a value.
-pub(crate) fn set_value(state: &mut [u64; 16], r: u8, v: Value)
-    requires { r < register_count }
-    ensures { state_of state.new ≡ set (state_of state.old) r v }
-{
-    let index = r as usize;
-    state[index] = word_of(v);
+impl Model for State {
+    ghost use Rattle.checks.specs.State as state;
+    ghost use Rattle.verifier.specs.Words.{state_of};
+
+    ghost Value = { state.State };
+
+    ghost view = { λ s. state_of s.words };
+}
+
+impl State {
+    ghost use Rattle.std.specs.Prelude.{◌≡◌, ◌<◌, replicate, set};
+    ghost use Rattle.checks.specs.State.{register_count, value};
+
+    // The same value in every register.
+    pub(crate) fn all(v: Value) -> State
+        ensures { result ≡ replicate register_count v }
+    {
+        State {
+            words: [word_of(v); REGISTERS],
+        }
+    }
+
+    // The value of a register.
+    pub(crate) fn get(&self, r: u8) -> Value
+        requires { r < register_count }
+        ensures { result ≡ value self.now r }
+    {
+        value_of(self.words[r as usize])
+    }
+
+    // Gives a register a value.
+    pub(crate) fn set(&mut self, r: u8, v: Value)
+        requires { r < register_count }
+        ensures { self.new ≡ set self.old r v }
+    {
+        self.words[r as usize] = word_of(v);
+    }
 }

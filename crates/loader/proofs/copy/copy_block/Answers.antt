@@ -7,6 +7,6 @@ use Rattle.loader.proofs.copy.copy_block.Goals as goal
 pub returns : goal.returns
 returns c =
     let a = c.args in
-    let at : c.byte_address-first.result.0 ≡ 2 * (249 * a.k) =
-    ap (λ (x : ByteAddress). x.0) c.byte_address-first.ensures ∙ omega arith in
+    let at : c.from-first.result.0 ≡ 2 * (249 * a.k) =
+    ap (λ (x : ByteAddress). x.0) c.from-first.ensures ∙ omega arith in
     part_copied a.file.now a.memory.now _ a.k a.n _ at (omega arith) c.requires.in_file c.copy_from_slice.ensures.after
