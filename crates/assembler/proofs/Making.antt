@@ -4,11 +4,11 @@ use mathlib.Core.List.{List, [], ◌∷◌, ◌++◌, append_assoc}
 use mathlib.Core.Option.{Option, none, some}
 use mathlib.Core.Logic.{⊎_elim}
 use mathlib.Core.Path.{◌≡◌, refl, ap, ap₂, sym, ◌∙◌, subst}
-use Prim.Native.Nat.{ℕ, zero, suc, ◌+◌, ◌<◌, ◌≤◌, ◌%◌, min}
+use Prim.Native.Nat.{ℕ, zero, suc, ◌+◌, ◌<◌, ◌≤◌, min}
 use native.Mathlib.Omega.{arith}
 use lib.Dec.{eqb}
 use lib.ListN.{length, get_or, length-append}
-use borrow.Author.Tests.{eq-eqb, ne_eqb, eqb-true, eqb-false, lt-ltb, le-ltb}
+use borrow.Author.Tests.{eq-eqb, ne_eqb, eqb-true, lt-ltb, le-ltb}
 use Rattle.units.proofs.Cases.{clash, lt_or_ge}
 use Rattle.isa.specs.declared.instruction.Instruction.{Instruction}
 use Rattle.syntax.specs.Syntax.{Item, branch_row}
@@ -24,12 +24,11 @@ use Rattle.refusals.specs.declared.check.Check.TheVariants as check
 use Rattle.isa.specs.Encode.{encode_of}
 use Rattle.assembler.specs.Assemble.{halfword_in}
 use Rattle.assembler.specs.Assembled.{refusal_at}
-use Rattle.assembler.specs.Reading.{label_no, field_no, line_no, first_flaw, flaw_after, field_halfword, says_of}
+use Rattle.assembler.specs.Reading.{label_no, line_no, first_flaw, flaw_after, field_halfword, says_of}
 use Rattle.assembler.specs.Reading.{blank, NotedAt, Unless, Noted}
-use Rattle.assembler.specs.Passes.{Aimed, field_meaning, aimed_meaning, noted_meaning, Made, Breaks, made_of, making}
-use Rattle.assembler.specs.Passes.{above_as, unless_flawed, make_from}
+use Rattle.assembler.specs.Passes.{Aimed, field_meaning, aimed_meaning, noted_meaning, Breaks, made_of, making}
+use Rattle.assembler.specs.Passes.{above_as, make_from}
 use Rattle.assembler.specs.declared.reader.Note.{Note}
-use Rattle.assembler.specs.declared.reader.Says.{Says}
 use Rattle.assembler.specs.declared.reader.Says.TheVariants.{Halfword, Branch}
 use Rattle.assembler.specs.declared.refusal.TextRefusal.{TextRefusal}
 use Rattle.assembler.proofs.Rows.{branches}

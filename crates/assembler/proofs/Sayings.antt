@@ -1,7 +1,7 @@
 -- What single lines and notes say, by what the code asked.
 use mathlib.Core.List.{List}
 use mathlib.Core.Option.{Option, none, some}
-use mathlib.Core.Path.{◌≡◌, refl, ap, sym, ◌∙◌, subst}
+use mathlib.Core.Path.{◌≡◌, refl, ap, sym, ◌∙◌}
 use Prim.Native.Nat.{ℕ, min}
 use lib.ListN.{set}
 use borrow.Author.Tests.{eq-eqb, ne_eqb}

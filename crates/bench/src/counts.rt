@@ -9,7 +9,9 @@ fn is_fit(h: u16) -> bool {
 }
 
 pub(crate) fn print_totals(rt: &impl Print) {
-    let defined = (0..=0xFFFFu16).filter(|&h| isa::decode(h).is_some()).count();
+    let defined = (0..=0xFFFFu16)
+        .filter(|&h| isa::decode(h).is_some())
+        .count();
     let fit = (0..=0xFFFFu16).filter(|&h| is_fit(h)).count();
     let _ = println!(rt; "defined halfwords: {defined}");
     let _ = println!(rt; "fit codes of two instructions, the second 0x0000: {fit}");

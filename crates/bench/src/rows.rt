@@ -1,5 +1,6 @@
 // The table's rows.
 use cpu::Machine;
+use digits::Hex;
 use streams::Ascii;
 
 const WINDOW: u16 = 256;
@@ -23,7 +24,11 @@ pub(crate) fn print_shift(rt: &impl Print) {
     let m = stepper::step_value(start, &mut memory).machine;
     let Machine { regs, z, c, .. } = m;
     let shifted = regs[0];
-    let _ = println!(rt; "ASR of 0x4000 by 15: {shifted} Z{} C{}", u8::from(z), u8::from(c));
+    let _ = println!(rt;
+        "ASR of 0x4000 by 15: {shifted} Z{} C{}",
+        u8::from(z),
+        u8::from(c)
+    );
 }
 
 // Packs a code into one block and says what the verifier makes of it.
@@ -38,7 +43,10 @@ fn print_packed(rt: &impl Print, code: &[u16]) {
     let mut block = [0u8; 512];
     let _ = packer::pack(code, WINDOW, WINDOW, &mut block);
     let last = u16::from_le_bytes([block[510], block[511]]);
-    let _ = println!(rt; "packing P with l 256: 1 block, last halfword {last:#06X}");
+    let _ = println!(rt;
+        "packing P with l 256: 1 block, last halfword {}",
+        Hex(last)
+    );
 }
 
 pub(crate) fn print_verdicts(rt: &impl Print) {
@@ -52,7 +60,12 @@ pub(crate) fn print_verdicts(rt: &impl Print) {
     ];
     let back = [0xD0FFu16, 0x0000];
     print_code(rt, "0xD0FF at address 0", &back, 256);
-    print_code(rt, "P with first halfword 0x21FD and l 256", &other_mask, 256);
+    print_code(
+        rt,
+        "P with first halfword 0x21FD and l 256",
+        &other_mask,
+        256,
+    );
     print_code(rt, "P with 0xD0FF before its HALT", &with_branch, 256);
     print_code(rt, "P with 0x4687 in front", &writes_pc, 256);
     print_packed(rt, &p);

@@ -1,4 +1,5 @@
 // What a file has where a check failed.
+use digits::Hex;
 use image::{BLOCK_BYTES, BLOCK_CODE, HEADER_BYTES, MOST_BYTES};
 use refusals::{Check, Place, Refusal};
 use std::io;
@@ -58,8 +59,7 @@ fn code_bytes(file: &[u8]) -> u16 {
 
 fn print_layout(rt: &impl Print, file: &[u8]) -> io::Result<()> {
     let first = Header::of(file, 0);
-    println!(
-        rt;
+    println!(rt;
         "  The code has {} bytes, w is {}, l is {}.",
         code_bytes(file),
         first.window_start,
@@ -70,10 +70,9 @@ fn print_layout(rt: &impl Print, file: &[u8]) -> io::Result<()> {
 // What a block says of itself, and what that was held to, where it is the file's.
 fn print_block(rt: &impl Print, file: &[u8], check: Check, k: u8) -> io::Result<()> {
     let block = Header::of(file, k);
-    println!(
-        rt;
-        "  Block {k} starts with {:#06X} and says: number {} of {}, {} halfwords of code, w {}, l {}.",
-        block.mark,
+    println!(rt;
+        "  Block {k} starts with {} and says: number {} of {}, {} halfwords of code, w {}, l {}.",
+        Hex(block.mark),
         block.number,
         block.blocks,
         block.used,
@@ -81,18 +80,15 @@ fn print_block(rt: &impl Print, file: &[u8], check: Check, k: u8) -> io::Result<
         block.window_length
     )?;
     match check {
-        Check::Numbering => println!(
-            rt;
+        Check::Numbering => println!(rt;
             "  The number of blocks in the file is {}.",
             file.len() / BLOCK_BYTES
         ),
         Check::SameWindow => {
             let first = Header::of(file, 0);
-            println!(
-                rt;
+            println!(rt;
                 "  Block 0 says: w {}, l {}.",
-                first.window_start,
-                first.window_length
+                first.window_start, first.window_length
             )
         }
         _ => Ok(()),
@@ -106,7 +102,7 @@ fn print_instruction(rt: &impl Print, file: &[u8], a: ByteAddress) -> io::Result
     let Some(h) = halfword_at(file, start + 2 * (number % BLOCK_CODE)) else {
         return Ok(());
     };
-    print!(rt; "  At address {} stands {h:#06X}", a.0)?;
+    print!(rt; "  At address {} stands {}", a.0, Hex(h))?;
     let line = lister::instruction_line(h, a);
     if line.as_bytes().is_empty() {
         println!(rt; ", which is no instruction.")

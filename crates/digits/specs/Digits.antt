@@ -1,5 +1,5 @@
 -- Digits as ASCII codes, and the numbers that they write.
-use Rattle.std.specs.Prelude.{◌&&◌, ◌||◌, cond, ℕ, ◌+◌, ◌-◌, ◌*◌, ◌%◌, leb, ltb, eqb}
+use Rattle.std.specs.Prelude.{◌&&◌, ◌||◌, cond, ℕ, ◌+◌, ◌-◌, ◌*◌, ◌/◌, ◌%◌, leb, ltb, eqb}
 use Rattle.std.specs.Prelude.{Option, Some, None, Result, Ok, Err, List, [], ◌∷◌}
 use Rattle.std.specs.Option.{option_and_then}
 use Rattle.digits.specs.declared.values.NumberError.{NumberError}
@@ -19,6 +19,11 @@ digit_in radix b = option_and_then (λ d. cond (ltb d radix) (Some d) None) (dig
 -- the last hexadecimal digit of a halfword, in capitals
 unfoldable pub last_digit : ℕ → ℕ
 last_digit h = cond (ltb (h % 16) 10) (48 + h % 16) (55 + h % 16)
+
+-- a halfword as text: 0x and four hexadecimal digits
+abbrev pub hex_text : ℕ → List ℕ
+hex_text h =
+    48 ∷ 120 ∷ last_digit (h / 4096) ∷ last_digit (h / 256) ∷ last_digit (h / 16) ∷ last_digit h ∷ []
 
 -- a halfword with one hexadecimal digit more: its last four count
 abbrev pub with_digit : ℕ → ℕ → ℕ

@@ -3,6 +3,8 @@ ghost use Rattle.std.specs.Prelude.{◌≡◌, ◌≤◌, IfOk};
 ghost use Rattle.digits.specs.Digits.{digit_of, digit_in, last_digit, with_digit, grown_by, grown_over};
 ghost use Rattle.digits.specs.Digits.{number_of, halfword_of};
 
+use std::fmt;
+
 // The largest halfword.
 pub const LARGEST: u32 = 65535;
 
@@ -33,6 +35,25 @@ pub fn last_digit(h: u16) -> u8
 {
     let d = (h % 16) as u8;
     if d < 10 { b'0' + d } else { b'A' + (d - 10) }
+}
+
+// A halfword as programs write it: four hexadecimal digits, with 0x in front.
+#[derive(Clone, Copy, PartialEq, Eq, Debug)]
+pub struct Hex(pub u16);
+
+impl fmt::Display for Hex {
+    ghost use Rattle.std.specs.Prelude.{Some};
+    ghost use Rattle.digits.specs.Digits.{hex_text};
+
+    ghost output = { λ x. Some (hex_text x.0) };
+
+    fn fmt<W: fmt::Write>(&self, f: &mut fmt::Formatter<W>) -> fmt::Result {
+        let first = char::from(last_digit(self.0 / 4096));
+        let second = char::from(last_digit(self.0 / 256));
+        let third = char::from(last_digit(self.0 / 16));
+        let last = char::from(last_digit(self.0));
+        write!(f, "0x{first}{second}{third}{last}")
+    }
 }
 
 // A halfword with one hexadecimal digit more.

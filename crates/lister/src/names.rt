@@ -1,7 +1,7 @@
 // The four characters that an instruction's line begins with; none for a halfword
 // that is no instruction. Like `isa::decode` they go by the top three bits, then by
 // the operation of the format: to decode first, and then to ask which instruction
-// it is, takes half as long again.
+// it is, takes half as long again. They are compiled into what writes the line.
 ghost use Rattle.std.specs.Prelude.{◌≡◌, slice_get};
 ghost use Rattle.isa.specs.Decode.{decode_of, halt_of, imm_of, registers_of, alu_of, high_of, memory_of, add_pc_of};
 ghost use Rattle.isa.specs.Decode.{branch_of};
@@ -16,12 +16,14 @@ const CMP: [u8; 4] = *b"CMP ";
 const MOV: [u8; 4] = *b"MOV ";
 
 // HALT.
+#[inline(always)]
 fn halt_name(h: u16) -> Option<[u8; 4]>
     ensures { result ≡ name_in (halt_of h) }
 {
     if h < 256 { Some(*b"HALT") } else { None }
 }
 
+#[inline(always)]
 fn imm_name(h: u16) -> Option<[u8; 4]>
     ensures { result ≡ name_in (imm_of h) }
 {
@@ -33,6 +35,7 @@ fn imm_name(h: u16) -> Option<[u8; 4]>
 }
 
 // AND, EOR, ASR, TST, NEG, CMP.
+#[inline(always)]
 fn alu_name(h: u16) -> Option<[u8; 4]>
     ensures { result ≡ name_in (alu_of h) }
 {
@@ -48,6 +51,7 @@ fn alu_name(h: u16) -> Option<[u8; 4]>
 }
 
 // A comparison of two low registers is none of this format.
+#[inline(always)]
 fn high_name(h: u16) -> Option<[u8; 4]>
     ensures { result ≡ name_in (high_of h) }
 {
@@ -59,6 +63,7 @@ fn high_name(h: u16) -> Option<[u8; 4]>
     }
 }
 
+#[inline(always)]
 fn registers_name(h: u16) -> Option<[u8; 4]>
     ensures { result ≡ name_in (registers_of h) }
 {
@@ -70,6 +75,7 @@ fn registers_name(h: u16) -> Option<[u8; 4]>
 }
 
 // STR, LDR, STRB, LDRB.
+#[inline(always)]
 fn memory_name(h: u16) -> Option<[u8; 4]>
     ensures { result ≡ name_in (memory_of h) }
 {
@@ -81,6 +87,7 @@ fn memory_name(h: u16) -> Option<[u8; 4]>
     }
 }
 
+#[inline(always)]
 fn add_pc_name(h: u16) -> Option<[u8; 4]>
     ensures { result ≡ name_in (add_pc_of h) }
 {
@@ -89,6 +96,7 @@ fn add_pc_name(h: u16) -> Option<[u8; 4]>
 
 // A branch by its condition: BEQ, BNE, BCS, BCC, BMI, BPL, BVS, BVC, BHI, BLS, BGE,
 // BLT, BGT, BLE.
+#[inline(always)]
 fn condition_name(v: u8) -> Option<[u8; 4]>
     ensures { result ≡ slice_get branch_names v }
 {
@@ -112,6 +120,7 @@ fn condition_name(v: u8) -> Option<[u8; 4]>
 }
 
 // 1101, then a condition.
+#[inline(always)]
 fn branch_name(h: u16) -> Option<[u8; 4]>
     ensures { result ≡ name_in (branch_of h) }
 {
@@ -122,6 +131,7 @@ fn branch_name(h: u16) -> Option<[u8; 4]>
 }
 
 // That of a halfword.
+#[inline(always)]
 pub(crate) fn name_of(h: u16) -> Option<[u8; 4]>
     ensures { result ≡ name_in (decode_of h) }
 {

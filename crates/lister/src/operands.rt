@@ -1,5 +1,7 @@
 // What follows the first four characters of an instruction's line, by the
-// instruction's format.
+// instruction's format. Every function that writes is compiled into its caller:
+// so the writer's place stays in a register, where calls keep it in memory and
+// take a fifth longer.
 ghost use Rattle.text.specs.Writes.{Fits, Grew};
 ghost use Rattle.syntax.specs.Syntax.{register_word};
 ghost use Rattle.lister.specs.Lines.{last_number, note_text, immediate_text, pair_text, place_text, transfer_text};
@@ -11,6 +13,7 @@ use units::{ByteAddress, bits};
 // What stands between two operands.
 const COMMA: &[u8; 2] = b", ";
 
+#[inline(always)]
 fn put_register(out: &mut Writer<'_>, r: u8)
     requires { Fits (register_word r) out.old }
     ensures { Grew (register_word r) out.old out.new }
@@ -20,6 +23,7 @@ fn put_register(out: &mut Writer<'_>, r: u8)
 }
 
 // A number and the line feed.
+#[inline(always)]
 fn put_last(out: &mut Writer<'_>, n: u16)
     requires { Fits (last_number n) out.old }
     ensures { Grew (last_number n) out.old out.new }
@@ -29,6 +33,7 @@ fn put_last(out: &mut Writer<'_>, n: u16)
 }
 
 // " #8", behind HALT.
+#[inline(always)]
 fn put_note(out: &mut Writer<'_>, note: u8)
     requires { Fits (note_text note) out.old }
     ensures { Grew (note_text note) out.old out.new }
@@ -38,6 +43,7 @@ fn put_note(out: &mut Writer<'_>, note: u8)
 }
 
 // "R1, #8".
+#[inline(always)]
 fn put_immediate(out: &mut Writer<'_>, r: u8, n: u8)
     requires { Fits (immediate_text r n) out.old }
     ensures { Grew (immediate_text r n) out.old out.new }
@@ -49,6 +55,7 @@ fn put_immediate(out: &mut Writer<'_>, r: u8, n: u8)
 }
 
 // "R1, R2".
+#[inline(always)]
 fn put_pair(out: &mut Writer<'_>, rd: u8, rs: u8)
     requires { Fits (pair_text rd rs) out.old }
     ensures { Grew (pair_text rd rs) out.old out.new }
@@ -60,6 +67,7 @@ fn put_pair(out: &mut Writer<'_>, rd: u8, rs: u8)
 }
 
 // Two registers, each low or any, by the format.
+#[inline(always)]
 fn put_registers(out: &mut Writer<'_>, h: u16)
     requires { Fits (registers_text h) out.old }
     ensures { Grew (registers_text h) out.old out.new }
@@ -72,6 +80,7 @@ fn put_registers(out: &mut Writer<'_>, h: u16)
 }
 
 // "[R2, #8]".
+#[inline(always)]
 fn put_place(out: &mut Writer<'_>, rb: u8, n: u16)
     requires { Fits (place_text rb n) out.old }
     ensures { Grew (place_text rb n) out.old out.new }
@@ -85,6 +94,7 @@ fn put_place(out: &mut Writer<'_>, rb: u8, n: u16)
 }
 
 // "R1, [R2, #8]".
+#[inline(always)]
 fn put_transfer(out: &mut Writer<'_>, rd: u8, rb: u8, n: u16)
     requires { Fits (transfer_text rd rb n) out.old }
     ensures { Grew (transfer_text rd rb n) out.old out.new }
@@ -96,6 +106,7 @@ fn put_transfer(out: &mut Writer<'_>, rd: u8, rb: u8, n: u16)
 
 // Those of a load or store. STRB and LDRB have no space among their first four
 // characters. The offset of STR and LDR counts in fours.
+#[inline(always)]
 fn put_memory(out: &mut Writer<'_>, h: u16)
     requires { Fits (memory_text h) out.old }
     ensures { Grew (memory_text h) out.old out.new }
@@ -112,6 +123,7 @@ fn put_memory(out: &mut Writer<'_>, h: u16)
 }
 
 // "R1, PC, #8".
+#[inline(always)]
 fn put_add_pc(out: &mut Writer<'_>, r: u8, imm: u8)
     requires { Fits (add_pc_text r imm) out.old }
     ensures { Grew (add_pc_text r imm) out.old out.new }
@@ -124,6 +136,7 @@ fn put_add_pc(out: &mut Writer<'_>, r: u8, imm: u8)
 }
 
 // The label of an address.
+#[inline(always)]
 fn put_target(out: &mut Writer<'_>, a: ByteAddress)
     requires { Fits (target_text a) out.old }
     ensures { Grew (target_text a) out.old out.new }
@@ -133,6 +146,7 @@ fn put_target(out: &mut Writer<'_>, a: ByteAddress)
 }
 
 // The operands of the halfword at an address, and the line feed.
+#[inline(always)]
 pub(crate) fn put_operands(out: &mut Writer<'_>, a: ByteAddress, h: u16)
     requires { Fits (operands_of a h) out.old }
     ensures { Grew (operands_of a h) out.old out.new }

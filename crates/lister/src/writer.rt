@@ -1,5 +1,5 @@
 // What is written for each instruction of a code: its label, if a branch goes
-// there, and its line.
+// there, and its line. What writes is compiled into its caller, as in `operands`.
 ghost use Rattle.std.specs.Prelude.{◌≡◌, ◌*◌, ◌<◌, ◌≤◌, length};
 ghost use Rattle.units.specs.Address.{byte_address_of};
 ghost use Rattle.isa.specs.Decode.{decode_of};
@@ -12,12 +12,10 @@ ghost use Rattle.lister.specs.Passes.{lines_with, Labelled};
 use super::names::name_of;
 use super::operands::put_operands;
 use targets::Marks;
-use text::Writer;
+use text::{LINE_BYTES, Writer};
 use units::{ByteAddress, InstructionIndex};
 
-// The room of a label and a line: more than they have.
-const LINES_BYTES: usize = 32;
-
+#[inline(always)]
 fn put_label(out: &mut Writer<'_>, a: ByteAddress, marked: bool)
     requires { Fits (label_line marked a) out.old }
     ensures { Grew (label_line marked a) out.old out.new }
@@ -30,6 +28,7 @@ fn put_label(out: &mut Writer<'_>, a: ByteAddress, marked: bool)
 }
 
 // The line of the halfword at an address; none for one that is undefined.
+#[inline(always)]
 pub(crate) fn put_instruction(out: &mut Writer<'_>, a: ByteAddress, h: u16)
     requires { Fits (instruction_line a (decode_of h)) out.old }
     ensures { Grew (instruction_line a (decode_of h)) out.old out.new }
@@ -41,6 +40,7 @@ pub(crate) fn put_instruction(out: &mut Writer<'_>, a: ByteAddress, h: u16)
 }
 
 // What is written for the halfword `h`, instruction `i`.
+#[inline(always)]
 fn put_lines(out: &mut Writer<'_>, marks: &Marks, i: InstructionIndex, h: u16)
     requires i_bound { i.0 < 64 * mark_words }
     requires h_in_bounds { Fits (lines_with (marked_at marks.now i.0) (byte_address_of i) (decode_of h)) out.old }
@@ -51,13 +51,14 @@ fn put_lines(out: &mut Writer<'_>, marks: &Marks, i: InstructionIndex, h: u16)
     put_instruction(out, a, h);
 }
 
-// Its length: it is written, but not into the output.
+// Its length: it is written, but not into the output. A label and a line have room
+// where a line has.
 fn lines_length(marks: &Marks, i: InstructionIndex, h: u16) -> usize
     requires { i.0 < 64 * mark_words }
     ensures { result ≡ length
         (lines_with (marked_at marks.now i.0) (byte_address_of i) (decode_of h)) }
 {
-    let mut lines = [0u8; LINES_BYTES];
+    let mut lines = [0u8; LINE_BYTES];
     let mut out = Writer::new(&mut lines);
     put_lines(&mut out, marks, i, h);
     out.at

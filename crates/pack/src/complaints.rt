@@ -11,13 +11,11 @@ fn say_code_length(rt: &impl Eprint, n: usize) {
 
 fn say_window(rt: &impl Eprint, n: usize, window: Window) {
     let end = ByteAddress::from(InstructionIndex((n % 65536) as u16)).0;
-    let _ = eprintln!(
-        rt;
+    let _ = eprintln!(rt;
         "  Check 8: the window lies behind the code and within memory, is not empty, and 4\n  \
          divides its start w and its length l.\n  \
          The code has {end} bytes, w is {}, l is {}.",
-        window.start,
-        window.length
+        window.start, window.length
     );
 }
 

@@ -6,8 +6,7 @@ use super::maker::pack;
 use super::scanner::Byte;
 use assembler::TextRefusal;
 use refusals::Check;
-use std::fmt;
-use std::io;
+use std::{fmt, io};
 
 // The longest text that is read. A program of the most instructions, with a label
 // of the longest name before each, has less.

@@ -1,6 +1,6 @@
 // How a run ends.
 ghost use Rattle.std.specs.Prelude.{◌≡◌};
-ghost use Rattle.runner.specs.Ends.{as_run};
+ghost use Rattle.runner.specs.Ends.{as_run, as_step};
 
 use cpu::{Outcome, Stop};
 use refusals::Refusal;
@@ -14,7 +14,7 @@ pub enum RunOutcome {
     Refused(Refusal),
 }
 
-// By its last step: one that completed spent the budget.
+// A run by its last step: one that completed spent the budget.
 impl From<Outcome> for RunOutcome {
     ghost from_gives = { λ outcome r. r ≡ as_run outcome };
 
@@ -24,6 +24,20 @@ impl From<Outcome> for RunOutcome {
             Outcome::Halted => RunOutcome::Halted,
             Outcome::Stopped(stop) => RunOutcome::Stopped(stop),
             Outcome::Refused(refusal) => RunOutcome::Refused(refusal),
+        }
+    }
+}
+
+// A run of one step, as that step ended.
+impl From<RunOutcome> for Outcome {
+    ghost from_gives = { λ outcome r. r ≡ as_step outcome };
+
+    fn from(outcome: RunOutcome) -> Outcome {
+        match outcome {
+            RunOutcome::Spent => Outcome::Completed,
+            RunOutcome::Halted => Outcome::Halted,
+            RunOutcome::Stopped(stop) => Outcome::Stopped(stop),
+            RunOutcome::Refused(refusal) => Outcome::Refused(refusal),
         }
     }
 }

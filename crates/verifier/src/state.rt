@@ -1,7 +1,8 @@
 // The abstract state: a word for each of R0 to R15, which holds the register's
 // abstract value. A word is read and written at once, where a struct in memory
 // would be written field by field.
-ghost use Rattle.std.specs.Prelude.{◌≡◌};
+ghost use Rattle.std.specs.Prelude.{◌≡◌, ◌<◌, replicate, set};
+ghost use Rattle.checks.specs.State.{register_count, value};
 ghost use Rattle.verifier.specs.Words.{value_of};
 
 use domain::Value;
@@ -44,9 +45,6 @@ impl Model for State {
 }
 
 impl State {
-    ghost use Rattle.std.specs.Prelude.{◌≡◌, ◌<◌, replicate, set};
-    ghost use Rattle.checks.specs.State.{register_count, value};
-
     // The same value in every register.
     pub(crate) fn all(v: Value) -> State
         ensures { result ≡ replicate register_count v }

@@ -1,6 +1,10 @@
 // The walk over a code, and the verdict on a file.
-ghost use Rattle.std.specs.Prelude.{◌≡◌, length};
+ghost use Rattle.std.specs.Prelude.{cond, ◌≡◌, ◌<◌, length};
+ghost use Rattle.units.specs.Address.{byte_address_of};
 ghost use Rattle.image.specs.Code.{code_of};
+ghost use Rattle.image.specs.Format.{most_code};
+ghost use Rattle.targets.specs.Targets.{marked_at};
+ghost use Rattle.checks.specs.State.{unknown_state, standing_at};
 ghost use Rattle.verifier.specs.Progress.{PassedBelow};
 ghost use Rattle.verifier.specs.Verify.{verify_code, verify_of};
 
@@ -15,12 +19,6 @@ use targets::Marks;
 use units::{ByteAddress, InstructionIndex};
 
 impl State {
-    ghost use Rattle.std.specs.Prelude.{cond, ◌≡◌, ◌<◌};
-    ghost use Rattle.units.specs.Address.{byte_address_of};
-    ghost use Rattle.image.specs.Format.{most_code};
-    ghost use Rattle.targets.specs.Targets.{marked_at};
-    ghost use Rattle.checks.specs.State.{unknown_state, standing_at};
-
     // Makes of the state that falls into instruction `i` the one in which it is
     // checked: at a branch target nothing is known, and R15 is its own address.
     fn arrive(&mut self, marks: &Marks, i: InstructionIndex)

@@ -3,6 +3,15 @@
 // two would go through memory. Branches, operations on registers, loads and
 // stores are told by tests: a processor foresees a test better than one way more
 // out of a table.
+ghost use Rattle.std.specs.Prelude.{cond, ◌≡◌, eqb, set, None};
+ghost use Rattle.units.specs.Address.{pc_sum};
+ghost use Rattle.units.specs.Field.{field};
+ghost use Rattle.isa.specs.Decode.{halt_of, alu_of, high_of, registers_of, memory_of, decode_of};
+ghost use Rattle.domain.specs.Value.{exactly_of};
+ghost use Rattle.targets.specs.Targets.{jump_at};
+ghost use Rattle.checks.specs.State as state;
+ghost use Rattle.verifier.specs.Visit.{Visited};
+
 use super::state::State;
 use checks::{check_byte, check_halfword, check_target, check_write};
 use domain::Value;
@@ -16,16 +25,25 @@ const REGISTER_FORMAT: u8 = 2;
 
 const MEMORY_FORMAT: u8 = 3;
 
-impl State {
-    ghost use Rattle.std.specs.Prelude.{cond, ◌≡◌, eqb, set, None};
-    ghost use Rattle.units.specs.Address.{pc_sum};
-    ghost use Rattle.units.specs.Field.{field};
-    ghost use Rattle.isa.specs.Decode.{halt_of, alu_of, high_of, registers_of, memory_of, decode_of};
-    ghost use Rattle.domain.specs.Value.{exactly_of};
-    ghost use Rattle.targets.specs.Targets.{jump_at};
-    ghost use Rattle.checks.specs.State as state;
-    ghost use Rattle.verifier.specs.Visit.{Visited};
+fn visit_halt(h: u16) -> Result<(), Check>
+    ensures { (layout : Layout) (a : ByteAddress) (s : state.State) → Visited layout a (halt_of h) s s result }
+{
+    if h < 256 { Ok(()) } else { Err(Check::Defined) }
+}
 
+// CMP of two registers of which one is high: bits 9 to 6 are 01 with H1, H2 or
+// both behind it. With two low registers, or with bit 9 set, it is no instruction.
+fn visit_compare(h: u16) -> Result<(), Check>
+    requires { field h 8 1 ≡ 1 }
+    ensures { (layout : Layout) (a : ByteAddress) (s : state.State) → Visited layout a (high_of h) s s result }
+{
+    match units::bits(h, 6, 4) {
+        5..=7 => Ok(()),
+        _ => Err(Check::Defined),
+    }
+}
+
+impl State {
     // MOV of an immediate.
     fn move_imm(&mut self, h: u16)
         ensures { self.new ≡ set self.old (field h 8 3) (exactly_of (field h 0 8)) }
@@ -163,29 +181,5 @@ impl State {
             Some(target) => check_target(target, layout),
             None => self.visit_straight(layout, a, h),
         }
-    }
-}
-
-ghost use Rattle.std.specs.Prelude.{◌≡◌};
-ghost use Rattle.units.specs.Field.{field};
-ghost use Rattle.isa.specs.Decode.{halt_of, high_of};
-ghost use Rattle.checks.specs.State as state;
-ghost use Rattle.verifier.specs.Visit.{Visited};
-
-fn visit_halt(h: u16) -> Result<(), Check>
-    ensures { (layout : Layout) (a : ByteAddress) (s : state.State) → Visited layout a (halt_of h) s s result }
-{
-    if h < 256 { Ok(()) } else { Err(Check::Defined) }
-}
-
-// CMP of two registers of which one is high: bits 9 to 6 are 01 with H1, H2 or
-// both behind it. With two low registers, or with bit 9 set, it is no instruction.
-fn visit_compare(h: u16) -> Result<(), Check>
-    requires { field h 8 1 ≡ 1 }
-    ensures { (layout : Layout) (a : ByteAddress) (s : state.State) → Visited layout a (high_of h) s s result }
-{
-    match units::bits(h, 6, 4) {
-        5..=7 => Ok(()),
-        _ => Err(Check::Defined),
     }
 }

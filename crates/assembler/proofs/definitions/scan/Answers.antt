@@ -1,5 +1,5 @@
 -- Every line was read, so the items that are left are told line by line.
-use Rattle.std.proofs.Common.{sym, ◌∙◌, arith}
+use Rattle.std.proofs.Common.{sym, arith}
 use Rattle.assembler.proofs.Scanning.{scan_line, scan_none, scan_found, scan_on}
 use Rattle.assembler.proofs.definitions.scan.Goals as goal
 
