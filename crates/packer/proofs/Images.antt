@@ -16,7 +16,7 @@ use Rattle.packer.proofs.Overwriting.{two_more}
 pub room_kept : (code : List ℕ) (k : ℕ) (out next : List ℕ) → Room code k out → length next ≡ length out
     → Room code k next
 room_kept code k out next room e =
-    record { code_fits = room.code_fits; in_image = room.in_image; long = e ∙ room.long }
+    record { in_image = room.in_image; long = e ∙ room.long }
 
 module _ (code : List ℕ) (w l : ℕ) where
   pub image_length : length (image_of code w l) ≡ block_bytes * blocks_needed (length code)

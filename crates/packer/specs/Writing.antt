@@ -1,12 +1,11 @@
 -- The image while it is written. Only the contracts of private functions speak of it.
-use Rattle.std.specs.Prelude.{◌≡◌, ℕ, ◌+◌, ◌*◌, ◌<◌, ◌≤◌, List, length, take}
+use Rattle.std.specs.Prelude.{◌≡◌, ℕ, ◌+◌, ◌*◌, ◌<◌, List, length, take}
 use Rattle.sums.specs.Sum.{sum_below}
-use Rattle.image.specs.Format.{block_bytes, header_halfwords, most_code}
+use Rattle.image.specs.Format.{block_bytes, header_halfwords}
 use Rattle.packer.specs.Pack.{blocks_needed, used_in, body_halfword, image_of}
 
--- the code fits an image, block k is one of its blocks, and the output is as long as the image
+-- block k is one of the image's blocks, and the output is as long as the image
 pub record Room (code : List ℕ) (k : ℕ) (out : List ℕ) : Type 0 where
-  pub code_fits : length code ≤ most_code
   pub in_image : k < blocks_needed (length code)
   pub long : length out ≡ block_bytes * blocks_needed (length code)
 
