@@ -7,8 +7,8 @@ use Rattle.runner.specs.Run.{RunResult}
 use Rattle.cpu.specs.declared.machine.Machine.{Machine}
 use Rattle.cpu.specs.declared.outcome.Outcome.{Outcome}
 use Rattle.cpu.specs.declared.outcome.Outcome.TheVariants.{Completed, Halted, Stopped, Refused}
-use Rattle.runner.specs.declared.ending.RunOutcome.{RunOutcome}
-use Rattle.runner.specs.declared.ending.RunOutcome.TheVariants as run
+use Rattle.runner.specs.declared.runs.RunOutcome.{RunOutcome}
+use Rattle.runner.specs.declared.runs.RunOutcome.TheVariants as run
 use Rattle.traffic.specs.declared.data.Traffic.{Traffic}
 use Rattle.traffic.specs.Data.{address_touched, kind_touched}
 

@@ -58,8 +58,9 @@ module _ (start : ℕ) (part memory : List ℕ) (fits : start + length part ≤ 
       ≡ get_or (part ++ drop (start + length part) memory) k 0
   unfolding with_part
   past k =
-      ap (λ (n : ℕ). get_or (take start memory ++ (part ++ drop (start + length part) memory)) (n + k) 0) (sym head_long)
-      ∙ get_or-append-add (take start memory) (part ++ drop (start + length part) memory) k 0
+      let tail = part ++ drop (start + length part) memory in
+      ap (λ (n : ℕ). get_or (take start memory ++ tail) (n + k) 0) (sym head_long)
+      ∙ get_or-append-add (take start memory) tail k 0
 
   pub in_part : (k : ℕ) → k < length part → get_or (with_part start part memory) (start + k) 0 ≡ get_or part k 0
   in_part k h = past k ∙ get_or-append part _ 0 k h

@@ -1,5 +1,6 @@
 -- The two things that a load does to memory ("Loading"). Only the contracts of private functions speak of it.
-use Rattle.std.specs.Prelude.{◌≡◌, List, ◌++◌, ℕ, ◌+◌, ◌-◌, ◌*◌, ◌/◌, ◌%◌, ◌<◌, ◌≤◌, length, get_or, take, drop, replicate}
+use Rattle.std.specs.Prelude.{◌≡◌, List, ◌++◌, ℕ, ◌+◌, ◌-◌, ◌*◌, ◌/◌, ◌%◌, ◌<◌, ◌≤◌, length, get_or, take, drop}
+use Rattle.std.specs.Prelude.{replicate}
 use Rattle.image.specs.Code.{code_position}
 use Rattle.image.specs.Format.{block_bytes, header_bytes}
 

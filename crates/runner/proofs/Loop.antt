@@ -15,7 +15,7 @@ use Rattle.cpu.specs.declared.machine.Machine.{Machine}
 use Rattle.cpu.specs.declared.outcome.Outcome.TheVariants.{Completed}
 use Rattle.cpu.specs.Held.{held}
 use Rattle.cpu.specs.Traffic.{step_traffic}
-use Rattle.runner.specs.declared.ending.RunOutcome.{RunOutcome}
+use Rattle.runner.specs.declared.runs.RunOutcome.{RunOutcome}
 use Rattle.runner.specs.Run.{RunResult, run_result, state, run_from, run_of}
 use Rattle.runner.specs.Traffic.{run_traffic}
 use Rattle.runner.specs.Ends.{Ended}

@@ -15,7 +15,7 @@ use Rattle.cpu.specs.Machine.{with_note}
 use Rattle.cpu.specs.Step.{State, StepResult, low_byte}
 use Rattle.cpu.proofs.Endings.{halted_step}
 use Rattle.cpu.proofs.Notes.{keeping, step_note}
-use Rattle.runner.specs.declared.ending.RunOutcome.TheVariants as ended
+use Rattle.runner.specs.declared.runs.RunOutcome.TheVariants as ended
 use Rattle.runner.specs.Run.{RunResult, run_result, state, outcome_at, next_state, go_on, run_from, run_of}
 use Rattle.runner.specs.Lent.{note_left, unnoted_run}
 

@@ -13,8 +13,8 @@ use Rattle.refusals.specs.declared.refusal.Refusal.{Refusal}
 use Rattle.alu.specs.declared.control.Control.{Control}
 use Rattle.cpu.specs.declared.held.Executed.{Executed}
 use Rattle.cpu.specs.declared.machine.Machine.{Machine}
-use Rattle.runner.specs.declared.ending.RunOutcome.{RunOutcome}
-use Rattle.runner.specs.declared.ending.RunOutcome.TheVariants.{Refused as RunRefused}
+use Rattle.runner.specs.declared.runs.RunOutcome.{RunOutcome}
+use Rattle.runner.specs.declared.runs.RunOutcome.TheVariants.{Refused as RunRefused}
 use Rattle.cpu.specs.declared.outcome.Outcome.{Outcome}
 use Rattle.cpu.specs.declared.outcome.Outcome.TheVariants.{Completed, Halted, Stopped, Refused}
 use Rattle.cpu.specs.Step.{State, StepResult, step_result, step_of}

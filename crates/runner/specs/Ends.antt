@@ -3,8 +3,8 @@ use Rattle.std.specs.Prelude.{◌≡◌, ℕ}
 use Rattle.cpu.specs.declared.machine.Machine.{Machine}
 use Rattle.cpu.specs.declared.outcome.Outcome.{Outcome}
 use Rattle.cpu.specs.declared.outcome.Outcome.TheVariants.{Completed, Halted, Stopped, Refused}
-use Rattle.runner.specs.declared.ending.RunOutcome.{RunOutcome}
-use Rattle.runner.specs.declared.ending.RunOutcome.TheVariants as ended
+use Rattle.runner.specs.declared.runs.RunOutcome.{RunOutcome}
+use Rattle.runner.specs.declared.runs.RunOutcome.TheVariants as ended
 
 -- how a run ends after its last step: one that completed spent the budget
 abbrev pub as_run : Outcome → RunOutcome

@@ -5,8 +5,8 @@ use Rattle.alu.specs.declared.status.Status.{Status}
 use Rattle.cpu.specs.Machine.{with_note}
 use Rattle.cpu.specs.Held.{bare}
 use Rattle.runner.specs.Run.{RunResult, run_result}
-use Rattle.runner.specs.declared.ending.RunOutcome.{RunOutcome}
-use Rattle.runner.specs.declared.ending.RunOutcome.TheVariants as ended
+use Rattle.runner.specs.declared.runs.RunOutcome.{RunOutcome}
+use Rattle.runner.specs.declared.runs.RunOutcome.TheVariants as ended
 use Rattle.alu.specs.Control.{flags_of}
 
 abbrev pub lent : List ℕ → Status → Machine

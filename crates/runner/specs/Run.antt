@@ -6,8 +6,8 @@ use Rattle.refusals.specs.Refusal.{refusal}
 use Rattle.cpu.specs.declared.machine.Machine.{Machine}
 use Rattle.cpu.specs.declared.outcome.Outcome.{Outcome}
 use Rattle.cpu.specs.declared.outcome.Outcome.TheVariants.{Completed, Halted, Stopped, Refused}
-use Rattle.runner.specs.declared.ending.RunOutcome.{RunOutcome}
-use Rattle.runner.specs.declared.ending.RunOutcome.TheVariants as ended
+use Rattle.runner.specs.declared.runs.RunOutcome.{RunOutcome}
+use Rattle.runner.specs.declared.runs.RunOutcome.TheVariants as ended
 use Rattle.cpu.specs.Step.{State, step_of}
 
 abbrev pub state : Machine → List ℕ → State

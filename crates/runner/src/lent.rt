@@ -10,7 +10,7 @@ ghost use Rattle.runner.specs.Traffic.{run_traffic};
 ghost use Rattle.runner.specs.Ends.{Ended};
 ghost use Rattle.runner.specs.Lent.{lent, unnoted_run};
 
-use super::ending::RunOutcome;
+use super::runs::RunOutcome;
 use alu::{Control, Status};
 use cpu::{Memory, Outcome, fetch_and_execute};
 use refusals::{Check, Refusal};

@@ -4,7 +4,7 @@ ghost use Rattle.std.specs.Prelude.{◌≡◌};
 ghost use Rattle.units.specs.Bytes.{byte_at};
 ghost use Rattle.runner.specs.Lent.{note_left};
 
-use super::ending::RunOutcome;
+use super::runs::RunOutcome;
 
 // The byte at an address; 0 where memory has none.
 fn byte_at(memory: &[u8], a: u16) -> u8

@@ -2,13 +2,51 @@
 ghost use Rattle.std.specs.Prelude.{◌≡◌};
 ghost use Rattle.runner.specs.Run.{run_result, run_of};
 ghost use Rattle.runner.specs.Traffic.{run_traffic};
+ghost use Rattle.runner.specs.Ends.{as_run, as_step};
 
-use super::ending::RunOutcome;
 use super::lent::run_lent;
 use super::notes::note_left;
 use alu::Status;
-use cpu::Machine;
+use cpu::{Machine, Outcome, Stop};
+use refusals::Refusal;
 use traffic::{Log, Traffic};
+
+// How a run ended: its budget was spent, or as its last step did.
+#[derive(Clone, Copy, PartialEq, Eq, Debug)]
+pub enum RunOutcome {
+    Spent,
+    Halted,
+    Stopped(Stop),
+    Refused(Refusal),
+}
+
+// A run by its last step: one that completed spent the budget.
+impl From<Outcome> for RunOutcome {
+    ghost from_gives = { λ outcome r. r ≡ as_run outcome };
+
+    fn from(outcome: Outcome) -> RunOutcome {
+        match outcome {
+            Outcome::Completed => RunOutcome::Spent,
+            Outcome::Halted => RunOutcome::Halted,
+            Outcome::Stopped(stop) => RunOutcome::Stopped(stop),
+            Outcome::Refused(refusal) => RunOutcome::Refused(refusal),
+        }
+    }
+}
+
+// A run of one step, as that step ended.
+impl From<RunOutcome> for Outcome {
+    ghost from_gives = { λ outcome r. r ≡ as_step outcome };
+
+    fn from(outcome: RunOutcome) -> Outcome {
+        match outcome {
+            RunOutcome::Spent => Outcome::Completed,
+            RunOutcome::Halted => Outcome::Halted,
+            RunOutcome::Stopped(stop) => Outcome::Stopped(stop),
+            RunOutcome::Refused(refusal) => Outcome::Refused(refusal),
+        }
+    }
+}
 
 // The machine after a run, how it ended, the steps completed, and what the last
 // of them touched.

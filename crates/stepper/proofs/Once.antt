@@ -11,8 +11,8 @@ use Rattle.refusals.specs.Refusal.{refusal}
 use Rattle.cpu.specs.declared.machine.Machine.{Machine}
 use Rattle.cpu.specs.declared.outcome.Outcome.{Outcome}
 use Rattle.cpu.specs.declared.outcome.Outcome.TheVariants.{Completed, Halted, Stopped, Refused}
-use Rattle.runner.specs.declared.ending.RunOutcome.{RunOutcome}
-use Rattle.runner.specs.declared.ending.RunOutcome.TheVariants.{Spent}
+use Rattle.runner.specs.declared.runs.RunOutcome.{RunOutcome}
+use Rattle.runner.specs.declared.runs.RunOutcome.TheVariants.{Spent}
 use Rattle.traffic.specs.declared.data.Traffic.{Traffic}
 use Rattle.cpu.specs.Step.{State, StepResult, step_result, fetched, step_of}
 use Rattle.cpu.specs.Traffic.{decoded_traffic, when_completed, step_traffic}

@@ -2,14 +2,13 @@
 use mathlib.Core.Bool.{Bool, cond, true, false}
 use mathlib.Core.List.{List}
 use mathlib.Core.Path.{◌≡◌, refl, sym, ap, ◌∙◌}
-use Prim.Native.Nat.{ℕ, zero, suc, ◌≤◌, ◌<◌}
+use Prim.Native.Nat.{ℕ, zero, suc, ◌-◌, ◌≤◌, ◌<◌}
 use native.Mathlib.Omega.{arith}
 use borrow.Author.Tests.{eq-eqb, ne_eqb}
 use lib.Dec.{eqb}
 use lib.ListN.{length, get_or, length-set}
 use Rattle.refusals.specs.declared.check.Check.{Check}
 use Rattle.refusals.specs.declared.check.Check.TheVariants as check
-use Rattle.refusals.specs.Refusal.{refusal_at}
 use Rattle.units.specs.Address.{byte_address_of}
 use Rattle.units.specs.declared.address.ByteAddress.{ByteAddress}
 use Rattle.units.specs.declared.address.InstructionIndex.{InstructionIndex}
@@ -19,15 +18,18 @@ use Rattle.isa.specs.declared.instruction.Instruction.{Instruction}
 use Rattle.isa.specs.declared.instruction.Instruction.TheVariants.{MovImm, CmpImm, And, Eor, Asr, Tst, Neg, Cmp}
 use Rattle.isa.specs.declared.instruction.Instruction.TheVariants.{AddHigh, CmpHigh, MovHigh, Str, Ldr, Strb, Ldrb}
 use Rattle.isa.specs.declared.instruction.Instruction.TheVariants.{AddPc, Branch, Halt}
-use Rattle.image.specs.Check.{first_no, rows_below}
+use Rattle.image.specs.Check.{first_no, rows_below, check_of}
+use Rattle.image.specs.Code.{code_at, code_of}
 use Rattle.image.specs.Format.{most_code}
 use Rattle.image.specs.declared.checker.Layout.{Layout}
 use Rattle.image.proofs.Answers.{next, stands}
+use Rattle.image.proofs.Valid.{valid_code, code_halfword_is}
 use Rattle.targets.specs.Targets.{address_of, decoded_at, targeted, marked_at}
 use Rattle.checks.specs.State.{State, unknown_state, standing_at, transfer_of, after_of}
 use Rattle.checks.specs.Parts.{last_check}
 use Rattle.checks.specs.Questions.{halfword_checks, answer_at}
 use Rattle.verifier.specs.Progress.{last_answer, PassedBelow, Walked}
+use Rattle.verifier.specs.Found.{found_in}
 use Rattle.verifier.specs.Visit.{Visited}
 use Rattle.verifier.specs.Verify.{entering, values_at, checks_at, code_checks, verdict_as, verify_code}
 use Rattle.verifier.proofs.Found.{told_first, told_last}
@@ -112,19 +114,12 @@ module _ (code : List ℕ) (layout : Layout) where
   passed zero h e = e
   passed (suc n) h e = e ∙ rw (ne_eqb (suc n) (length code) (λ (p : suc n ≡ length code). omega arith)) refl
 
-  -- behind it, it decides
-  pub ended : {m h : ℕ} {r : Result ⊤ Check} → length code ≡ suc m → h ≡ get_or code m 0 → r ≡ last_check h
-      → PassedBelow code layout (length code)
-      → first_no (code_checks code layout (length code)) ≡ answer_at (address_of m) r
-  ended {m} l q r e = e ∙ ap (last_answer code) l ∙ rw (r, q, eq-eqb (suc m) (length code) (sym l)) refl
-
--- what a visit to instruction n, at an address, decides: r is what it found, s the state left
-pub record Decides (code : List ℕ) (layout : Layout) (n : ℕ) (a : ByteAddress) (r : Result ⊤ Check) (s : State)
-    : Type 0 where
+-- what the visit to instruction n decides: x is its answer, s the state left
+pub record Decides (code : List ℕ) (layout : Layout) (n : ℕ) (x : Result ⊤ Refusal) (s : State) : Type 0 where
   -- the verdict
-  pub fails : (failed : Check) → r ≡ Err failed → Err (refusal_at failed a) ≡ verify_code code layout
+  pub fails : (r : Refusal) → x ≡ Err r → Err r ≡ verify_code code layout
   -- that check 14 is left
-  pub passes : r ≡ Ok tt → Walked code layout (suc n) s
+  pub passes : x ≡ Ok tt → Walked code layout (suc n) s
 
 -- for instruction n, number i, which a walk comes to with a state that is reset where the instruction is marked, and
 -- that its address then goes into
@@ -133,7 +128,8 @@ module _ {code : List ℕ} (marks : List ℕ) {layout : Layout} {n h : ℕ} {i :
     (inside : n < length code) (fits : length code ≤ most_code) (number : i.0 ≡ n) (halfword : h ≡ get_or code n 0)
     (marked : (j : ℕ) → j < most_code → marked_at marks j ≡ targeted code j)
     (arrived : before ≡ standing_at (byte_address_of i) (cond (marked_at marks i.0) unknown_state falling))
-    (address : a ≡ byte_address_of i) (visited : Visited layout a (decode_of h) before after r) where
+    (address : a ≡ byte_address_of i) (visited : Visited layout a (decode_of h) before after r)
+    {answer : Result ⊤ Refusal} (answered : answer ≡ answer_at a r) where
   at : a ≡ address_of n
   at = rw number at address
 
@@ -153,21 +149,35 @@ module _ {code : List ℕ} (marks : List ℕ) {layout : Layout} {n h : ℕ} {i :
   unfolding entering decoded_at
   left = visited.state ∙ rw (values, halfword, at) refl
 
-  pub decided : Decides code layout n a r after
+  pub decided : Decides code layout n answer after
   decided =
       let so_far : first_no (code_checks code layout n) ≡ (Ok tt) = passed code layout n inside walked.passed in
       let last : Bool = eqb (suc n) (length code) in
+      let come_to : answer_at a (found_in before layout a (decode_of h)) ≡ answer =
+      sym (answered ∙ ap (answer_at a) visited.found) in
       record {
         fails =
-            λ failed e. refusal code layout n (refusal_at failed a) inside so_far
-            (checked (Err (refusal_at failed a))
-            (told_first before layout a last h (decode_of h) failed (sym e ∙ visited.found)));
+            λ refused e. refusal code layout n refused inside so_far
+            (checked (Err refused) (told_first before layout a last h (decode_of h) refused (come_to ∙ e)));
         passes =
             λ e. record {
               state = left;
               passed =
                   next (checks_at code layout) n so_far
-                  ∙ checked _ (told_last before layout a last h (decode_of h) _ (sym e ∙ visited.found) refl)
+                  ∙ checked _ (told_last before layout a last h (decode_of h) (come_to ∙ e))
                   ∙ rw (halfword, at) refl;
             };
       }
+
+-- behind the last instruction of an accepted file check 14 decides: x is what it answers
+pub ended : (file : List ℕ) {layout : Layout} {n h : ℕ} {r : Result ⊤ Check} {a : ByteAddress} {x : Result ⊤ Refusal}
+    → check_of file ≡ Ok layout → n ≡ length (code_of file) → h ≡ code_at file (n - 1) → r ≡ last_check h
+    → a ≡ byte_address_of (record { 0 = n - 1 }) → x ≡ answer_at a r
+    → PassedBelow (code_of file) layout (length (code_of file))
+    → first_no (code_checks (code_of file) layout (length (code_of file))) ≡ x
+ended file {layout} {n} ok count read is there answered so_far =
+    let some : 1 ≤ length (code_of file) = (valid_code file layout ok).0 in
+    let last : length (code_of file) ≡ suc (n - 1) = omega arith in
+    let halfword = read ∙ sym (code_halfword_is file (n - 1) (omega arith)) in
+    so_far ∙ ap (last_answer (code_of file)) last
+    ∙ rw (answered, there, is, halfword, eq-eqb (suc (n - 1)) (length (code_of file)) (sym last)) refl

@@ -11,7 +11,7 @@ ghost use Rattle.verifier.specs.Verify.{verify_code, verify_of};
 use super::code::Accepted;
 use super::marks::mark_targets;
 use super::state::State;
-use checks::{PC, check_last};
+use checks::{PC, answer_at, check_last};
 use domain::Value;
 use image::Layout;
 use refusals::Refusal;
@@ -40,10 +40,9 @@ fn check_end(code: Accepted<'_>) -> Result<Layout, Refusal>
     ensures { result ≡ verify_code (code_of code.entry.file.now) code.entry.layout }
 {
     let last = InstructionIndex(code.count() - 1);
-    match check_last(image::code_at(code.file, last)) {
-        Ok(()) => Ok(code.layout),
-        Err(check) => Err(Refusal::at(check, ByteAddress::from(last))),
-    }
+    let found = check_last(image::code_at(code.file, last));
+    answer_at(ByteAddress::from(last), found)?;
+    Ok(code.layout)
 }
 
 // Checks 9 to 14 of a code, lowest address first. `state` holds the values that
@@ -59,9 +58,7 @@ fn walk(code: Accepted<'_>) -> Result<Layout, Refusal>
             let (i, h) = code.instruction(k, n);
             state.arrive(&marks, i);
             let a = ByteAddress::from(i);
-            if let Err(check) = state.visit(code.layout, a, h) {
-                return Err(Refusal::at(check, a));
-            }
+            answer_at(a, state.visit(code.layout, a, h))?;
         }
     }
     check_end(code)

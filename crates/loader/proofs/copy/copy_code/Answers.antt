@@ -16,5 +16,5 @@ loop-k-preserved c =
     let at = c.loop-k in
     let left : 249 * at.k < a.count.0 = omega arith in
     let there = block_inside a.file.now at.k _ a.count.0 c.requires.by_index left c.min-n.ensures in
-    copied_more a.file.now a.memory.now at.memory _ at.k _ a.count.0 left c.min-n.ensures (omega arith) there at.invariant
-    c.copy_block.ensures
+    copied_more a.file.now a.memory.now at.memory _ at.k _ a.count.0 left c.min-n.ensures (omega arith) there
+    at.invariant c.copy_block.ensures

@@ -5,7 +5,7 @@ use Rattle.loader.proofs.loader.place.Goals as goal
 
 pub copy_code-requires-clause-by_index : goal.copy_code-requires-clause-by_index
 copy_code-requires-clause-by_index c =
-    code_there _ _ c.requires.file_value _ c.from-count.ensures
+    code_there _ _ c.requires.file_value _ c.count.ensures
 
 pub clear_window-requires : goal.clear_window-requires
 clear_window-requires c =
@@ -15,5 +15,6 @@ clear_window-requires c =
 
 pub returns : goal.returns
 returns c =
-    placed c.args.file.now c.args.layout c.requires.file_value _ c.from-count.ensures
-    (λ p. omega (arith, c.type_inv.file p)) c.args.memory.now _ _ c.requires.memory_len c.copy_code.ensures c.clear_window.ensures
+    placed c.args.file.now c.args.layout c.requires.file_value _ c.count.ensures
+    (λ p. omega (arith, c.type_inv.file p)) c.args.memory.now _ _ c.requires.memory_len c.copy_code.ensures
+    c.clear_window.ensures
