@@ -1,6 +1,6 @@
 -- How the code holds flags: as the numbers that they speak of. Only contracts of functions that are no entry points
 -- speak of it.
-use Rattle.std.specs.Prelude.{◌%◌, ◌&&◌, ◌==◌, nat_le}
+use Rattle.std.specs.Prelude.{ℕ, ◌%◌, ◌&&◌, ◌==◌, nat_le}
 use Rattle.alu.specs.declared.control.Control.{Control}
 use Rattle.alu.specs.declared.status.Status.{Status}
 use Rattle.alu.specs.Flags.{Flags}
@@ -21,3 +21,7 @@ flags_in k =
 -- and the flags by themselves
 abbrev pub flags_of : Status → Flags
 flags_of s = record { n = s.n; z = s.z; c = s.c; v = s.v }
+
+-- the same flags at another PC
+abbrev pub moved : ℕ → Control → Control
+moved pc k = record { pc = pc; result = k.result; a = k.a; b = k.b; sum = k.sum }

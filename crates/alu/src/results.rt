@@ -5,21 +5,7 @@ ghost use Rattle.alu.specs.Alu.{result_flags, sum_of, sum_flags, difference_of, 
 ghost use Rattle.alu.specs.Alu.{shift_carry, shift_flags};
 ghost use Rattle.alu.specs.Control.{flags_in};
 
-use super::conditions::is_carry;
 use super::control::Control;
-
-// N and Z of a result.
-pub fn result_flags(k: Control, r: u16) -> Control
-    ensures { (result.pc ≡ k.pc) × (flags_in result ≡ result_flags r (flags_in k)) }
-{
-    Control {
-        pc: k.pc,
-        result: r as u32,
-        a: k.a,
-        b: k.b,
-        sum: k.sum,
-    }
-}
 
 pub fn sum(a: u16, b: u16) -> u16
     ensures { result ≡ sum_of a b }
@@ -30,45 +16,8 @@ pub fn sum(a: u16, b: u16) -> u16
 pub fn difference(a: u16, b: u16) -> u16
     ensures { result ≡ difference_of a b }
 {
-    let negated = 65535 - b.wrapping_add(1);
+    let negated = (65535 - b).wrapping_add(1);
     a.wrapping_add(negated)
-}
-
-// The flags of a sum r of a and b.
-pub fn sum_flags(k: Control, a: u16, b: u16, r: u16) -> Control
-    requires { r ≡ sum_of a b }
-    ensures { (result.pc ≡ k.pc) × (flags_in result ≡ sum_flags a b) }
-{
-    Control {
-        pc: k.pc,
-        result: r as u32,
-        a,
-        b,
-        sum: (a as u32) + (b as u32),
-    }
-}
-
-// The flags of a difference r of a and b: those of the sum of a, b with every
-// bit the other way round, and 1.
-pub fn difference_flags(k: Control, a: u16, b: u16, r: u16) -> Control
-    requires { r ≡ difference_of a b }
-    ensures { (result.pc ≡ k.pc) × (flags_in result ≡ difference_flags a b) }
-{
-    Control {
-        pc: k.pc,
-        result: r as u32,
-        a,
-        b: 65535 - b,
-        sum: (a as u32) + 65536 - (b as u32),
-    }
-}
-
-// The flags of a - b, of which a comparison keeps nothing else.
-pub fn compare(k: Control, a: u16, b: u16) -> Control
-    ensures { (result.pc ≡ k.pc) × (flags_in result ≡ difference_flags a b) }
-{
-    let r = difference(a, b);
-    difference_flags(k, a, b, r)
 }
 
 // a shifted right by k bits with its sign coming in.
@@ -115,17 +64,62 @@ pub(crate) fn with_carry(sum: u32, c: bool) -> u32
     if c { sum % 65536 + 65536 } else { sum % 65536 }
 }
 
-// The flags of ASR's result r of a and n.
-pub fn shift_flags(k: Control, a: u16, n: u16, r: u16) -> Control
-    requires { r ≡ shift_of a n }
-    ensures { (result.pc ≡ k.pc) × (flags_in result ≡ shift_flags a n (flags_in k)) }
-{
-    let c = shift_carry(a, n, is_carry(k));
-    Control {
-        pc: k.pc,
-        result: r as u32,
-        a: k.a,
-        b: k.b,
-        sum: with_carry(k.sum, c),
+impl Control {
+    // N and Z of a result.
+    pub fn result_flags(self, r: u16) -> Control
+        ensures { (result.pc ≡ self.pc) × (flags_in result ≡ result_flags r (flags_in self)) }
+    {
+        let result = r as u32;
+        Control { result, ..self }
+    }
+
+    // The flags of a sum r of a and b.
+    pub fn sum_flags(self, a: u16, b: u16, r: u16) -> Control
+        requires { r ≡ sum_of a b }
+        ensures { (result.pc ≡ self.pc) × (flags_in result ≡ sum_flags a b) }
+    {
+        Control {
+            result: r as u32,
+            a,
+            b,
+            sum: (a as u32) + (b as u32),
+            ..self
+        }
+    }
+
+    // The flags of a difference r of a and b: those of the sum of a, b with every
+    // bit the other way round, and 1.
+    pub fn difference_flags(self, a: u16, b: u16, r: u16) -> Control
+        requires { r ≡ difference_of a b }
+        ensures { (result.pc ≡ self.pc) × (flags_in result ≡ difference_flags a b) }
+    {
+        Control {
+            result: r as u32,
+            a,
+            b: 65535 - b,
+            sum: (a as u32) + 65536 - (b as u32),
+            ..self
+        }
+    }
+
+    // The flags of a - b, of which a comparison keeps nothing else.
+    pub fn compare(self, a: u16, b: u16) -> Control
+        ensures { (result.pc ≡ self.pc) × (flags_in result ≡ difference_flags a b) }
+    {
+        let r = difference(a, b);
+        self.difference_flags(a, b, r)
+    }
+
+    // The flags of ASR's result r of a and n.
+    pub fn shift_flags(self, a: u16, n: u16, r: u16) -> Control
+        requires { r ≡ shift_of a n }
+        ensures { (result.pc ≡ self.pc) × (flags_in result ≡ shift_flags a n (flags_in self)) }
+    {
+        let c = shift_carry(a, n, self.is_carry());
+        Control {
+            result: r as u32,
+            sum: with_carry(self.sum, c),
+            ..self
+        }
     }
 }

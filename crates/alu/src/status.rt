@@ -3,12 +3,11 @@ ghost use Rattle.std.specs.Prelude.{◌≡◌, ◌%◌, ◌==◌};
 ghost use Rattle.alu.specs.Alu.{negative};
 ghost use Rattle.alu.specs.Control.{flags_in, flags_of};
 
-use super::conditions::{is_carry, is_negative, is_overflow, is_zero};
 use super::control::Control;
 use super::results::with_carry;
 
 // N, Z, C and V.
-#[derive(Drop)]
+#[derive(Clone, Copy, PartialEq, Eq, Debug)]
 pub struct Status {
     pub n: bool,
     pub z: bool,
@@ -17,14 +16,16 @@ pub struct Status {
 }
 
 // The flags that are held.
-pub fn status_in(k: Control) -> Status
-    ensures { flags_of result ≡ flags_in k }
-{
-    Status {
-        n: is_negative(k),
-        z: is_zero(k),
-        c: is_carry(k),
-        v: is_overflow(k),
+impl From<Control> for Status {
+    ghost from_gives = { λ k s. flags_of s ≡ flags_in k };
+
+    fn from(k: Control) -> Status {
+        Status {
+            n: k.is_negative(),
+            z: k.is_zero(),
+            c: k.is_carry(),
+            v: k.is_overflow(),
+        }
     }
 }
 
@@ -33,12 +34,11 @@ pub fn status_in(k: Control) -> Status
 fn result_of(n: bool, z: bool) -> u32
     ensures { (negative result ≡ n) × ((result % 65536 == 0) ≡ z) }
 {
-    if n {
-        if z { 0x10000 } else { 0x8000 }
-    } else if z {
-        0
-    } else {
-        1
+    match (n, z) {
+        (true, true) => 0x10000,
+        (true, false) => 0x8000,
+        (false, true) => 0,
+        (false, false) => 1,
     }
 }
 
@@ -49,18 +49,18 @@ fn operand_of(v: bool) -> u16
     if v { 0x8000 } else { 0 }
 }
 
-// A PC and flags, held.
-pub fn control_of(pc: u16, s: Status) -> Control
-    ensures { (result.pc ≡ pc) × (flags_in result ≡ flags_of s) }
-{
-    let result = result_of(s.n, s.z);
-    let operand = operand_of(s.v);
-    let sum = with_carry(0, s.c);
-    Control {
-        pc,
-        result,
-        a: operand,
-        b: operand,
-        sum,
+impl Control {
+    // A PC and flags, held.
+    pub fn new(pc: u16, s: Status) -> Control
+        ensures { (result.pc ≡ pc) × (flags_in result ≡ flags_of s) }
+    {
+        let operand = operand_of(s.v);
+        Control {
+            pc,
+            result: result_of(s.n, s.z),
+            a: operand,
+            b: operand,
+            sum: with_carry(0, s.c),
+        }
     }
 }

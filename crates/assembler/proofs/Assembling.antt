@@ -15,18 +15,17 @@ use Rattle.assembler.specs.Assemble.{Read, Items, NoLine, read_from, is_label, i
 use Rattle.assembler.specs.Assemble.{Said, Nothing, Instructs, Fault, said_at, Checked, Code, Fails, saying}
 use Rattle.assembler.specs.Assemble.{next_number, check_from, halfwords_of, Assembly, Assembles, Refuses, with_room}
 use Rattle.assembler.specs.Assemble.{assemble_read, assemble_of}
-use Rattle.assembler.specs.Assembled.{assembled_as, output_after, TriedOf}
-use Rattle.assembler.specs.Reading.{no_flaw, flaw_after, read_as, Entered}
-use Rattle.assembler.specs.Passes.{Ready, Unfolded, items_of, made_of, translated_as, put_from}
-use Rattle.assembler.specs.Passes.{Written}
-use Rattle.assembler.specs.declared.reader.Flaw.{Flaw}
-use Rattle.assembler.specs.declared.assembler.Tried.{Tried}
-use Rattle.assembler.specs.declared.assembler.Tried.TheVariants.{Answer, Outgrown}
-use Rattle.assembler.specs.declared.assembler.Assembled.{Assembled}
-use Rattle.assembler.specs.declared.assembler.Assembled.TheVariants.{Done, Refused}
+use Rattle.assembler.specs.Assembled.{refusal, refusal_at, assembled_as, output_after, TriedOf}
+use Rattle.assembler.specs.Reading.{flaw_after, read_as, Entered}
+use Rattle.assembler.specs.Passes.{Ready, Unfolded, items_of, made_of, translated_as, put_from, Written}
 use Rattle.assembler.specs.declared.reader.Counted.{Counted}
-use Rattle.assembler.specs.declared.reader.Counted.TheVariants as counted
-use Rattle.assembler.specs.declared.translator.Translated.TheVariants as translated
+use Rattle.assembler.specs.declared.reader.Note.{Note}
+use Rattle.assembler.specs.declared.refusal.TextRefusal.{TextRefusal}
+use Rattle.std.specs.Prelude as Std
+use Rattle.std.specs.Prelude.{Result, Ok, Err, Some, None, ⊤}
+use Rattle.refusals.specs.declared.check.Check.{Check}
+use Rattle.refusals.specs.declared.check.Check.TheVariants as check
+use Rattle.labels.specs.declared.table.Entry.{Entry}
 use Rattle.assembler.proofs.Saying.{Kind, kind}
 use Rattle.assembler.proofs.Translating.{whole}
 
@@ -51,7 +50,7 @@ code_length_is items k i (x ∷ xs) is e =
     go Nothing false kd later f e = absurd kd
     go (Instructs j) true kd later f e = absurd kd
     go (Instructs j) false kd (Code js) f e = let z : is ≡ j ∷ js = cc in ap length z ∙ ap suc (f js refl)
-    go (Instructs j) false kd (Fails n m) f e = clash (cc)
+    go (Instructs j) false kd (Fails c m) f e = clash (cc)
     go (Fault n) l kd later f e = clash (cc)
 
 -- halfwords put one by one
@@ -67,50 +66,53 @@ put_all (g ∷ hs) [] h = absurd (omega arith)
 put_all (g ∷ hs) (o ∷ out) h = put_behind 0 hs g out ∙ ap (λ (l : List ℕ). g ∷ l) (put_all hs out (omega arith))
 
 -- what a try answers and leaves, with room for the notes of so many instructions
-abbrev pub Tries : Text → ℕ → List ℕ → Tried → List ℕ → Type 0
+abbrev pub Answer : Type 0
+Answer = Result (Std.Option ℕ) TextRefusal
+
+abbrev pub Tries : Text → ℕ → List ℕ → Answer → List ℕ → Type 0
 Tries text room out r after = TriedOf (assemble_of text (length out)) room out r after
 
-answers : (text out : List ℕ) (room : ℕ) {after : List ℕ} {r : Assembled} (a : Assembly)
-    → assemble_of text (length out) ≡ a → r ≡ assembled_as a
-    → after ≡ output_after a out → Tries text room out (Answer r) after
-answers text out room a e p q = (p ∙ ap assembled_as (sym e), q ∙ ap (λ (z : Assembly). output_after z out) (sym e))
+refuses : (text out : List ℕ) (room : ℕ) (c : Check) (line : ℕ) → assemble_of text (length out) ≡ Refuses c line
+    → Tries text room out (Err (refusal_at c line)) out
+refuses text out room c line e =
+    (ap assembled_as (sym e), ap (λ (z : Assembly). output_after z out) (sym e))
 
 abbrev said : Text → Checked
 said text = check_from (items_of text) 1 0 (items_of text)
 
-module _ {text names numbers halfwords aims lines : List ℕ} {n : ℕ} {flaw : Flaw}
-    (read : Unfolded text names numbers halfwords aims lines n flaw) where
+module _ {text : Text} {table : List Entry} {notes : List Note} {counted : Counted}
+    (read : Unfolded text table notes counted) where
   abbrev room : ℕ
-  room = length halfwords
+  room = length notes
+
+  abbrev n : ℕ
+  n = counted.n
 
   read_items : (size : ℕ) → assemble_of text size ≡ assemble_read size (Items (items_of text))
   unfolding assemble_of
   read_items size = ap (assemble_read size) read.known.all_read
 
   counted_as : (size : ℕ) (b : Bool) → check15 n ≡ b
-      → assemble_of text size ≡ cond b (with_room size (said text)) (Refuses 15 0)
+      → assemble_of text size ≡ cond b (with_room size (said text)) (Refuses check.CodeLength 0)
   counted_as size b e =
       read_items size
-      ∙ ap (λ (t : Bool). cond t (with_room size (said text)) (Refuses 15 0)) (ap check15 (sym read.count) ∙ e)
+      ∙ ap (λ (t : Bool). cond t (with_room size (said text)) (Refuses check.CodeLength 0))
+      (ap check15 (sym read.count) ∙ e)
 
-  pub too_few : (out : List ℕ) {r : Tried} → n < 1 → r ≡ Answer (Refused 15 0) → Tries text room out r out
-  too_few out h is =
-      subst (λ (r : Tried). Tries text room out r out) (sym is)
-      (answers text out room (Refuses 15 0) (counted_as (length out) false (rw (lt-leb 1 n h) refl)) refl refl)
+  pub too_few : (out : List ℕ) → n < 1 → Tries text room out (Err (refusal check.CodeLength)) out
+  too_few out h =
+      refuses text out room check.CodeLength 0 (counted_as (length out) false (rw (lt-leb 1 n h) refl))
 
-  pub too_many : (out : List ℕ) {r : Tried} → most_code < n → r ≡ Answer (Refused 15 0) → Tries text room out r out
-  too_many out h is =
+  pub too_many : (out : List ℕ) → most_code < n → Tries text room out (Err (refusal check.CodeLength)) out
+  too_many out h =
       let e : check15 n ≡ false = rw (le-leb 1 n (omega arith), lt-leb n most_code h) refl in
-      subst (λ (r : Tried). Tries text room out r out) (sym is)
-      (answers text out room (Refuses 15 0) (counted_as (length out) false e) refl refl)
+      refuses text out room check.CodeLength 0 (counted_as (length out) false e)
 
   -- the notes are all there
-  pub all_noted : n ≤ length halfwords → Ready text names numbers halfwords aims lines n flaw
+  pub all_noted : n ≤ length notes → Ready text table notes counted
   all_noted h =
       record {
         known = read.known;
-        size_aims = read.size_aims;
-        size_lines = read.size_lines;
         room = h;
         noted = read.noted h;
         count = read.count;
@@ -123,106 +125,80 @@ module _ {text names numbers halfwords aims lines : List ℕ} {n : ℕ} {flaw : 
         counted_as (length out) true (rw (le-leb 1 n least, le-leb n most_code most) refl)
         ∙ ap (with_room (length out)) e
 
-    pub line_fails : {number line : ℕ} {r : Tried} → translated.Fault number line ≡ translated_as (whole text)
-        → r ≡ Answer (Refused number line) → Tries text room out r out
-    line_fails {number} {line} e is =
-        subst (λ (r : Tried). Tries text room out r out) (sym is) (go (said text) refl e)
+    pub line_fails : {f : TextRefusal} → Err f ≡ translated_as (whole text) → Tries text room out (Err f) out
+    line_fails {f} e = go (said text) refl e
       where
-        go : (c : Checked) → said text ≡ c → translated.Fault number line ≡ translated_as (made_of c)
-            → Tries text room out (Answer (Refused number line)) out
+        go : (c : Checked) → said text ≡ c → Err f ≡ translated_as (made_of c) → Tries text room out (Err f) out
         go (Code is) p e = clash (cc)
         go (Fails m l) p e =
-            let same : Refused number line ≡ Refused m l = cc in
-            answers text out room (Refuses m l) (checked (Fails m l) p) same refl
+            let same : f ≡ refusal_at m l = cc in
+            subst (λ (r : TextRefusal). Tries text room out (Err r) out) (sym same)
+            (refuses text out room m l (checked (Fails m l) p))
 
-    pub no_room : {r : Tried} → length out < n → translated.Done ≡ translated_as (whole text)
-        → r ≡ Answer (Refused 16 0) → Tries text room out r out
-    no_room h e is = subst (λ (r : Tried). Tries text room out r out) (sym is) (go (said text) refl e)
+    pub no_room : length out < n → Ok tt ≡ translated_as (whole text)
+        → Tries text room out (Err (refusal check.OutputLength)) out
+    no_room h e = go (said text) refl e
       where
-        go : (c : Checked) → said text ≡ c → translated.Done ≡ translated_as (made_of c)
-            → Tries text room out (Answer (Refused 16 0)) out
+        go : (c : Checked) → said text ≡ c → Ok tt ≡ translated_as (made_of c)
+            → Tries text room out (Err (refusal check.OutputLength)) out
         go (Fails m l) p e = clash (cc)
         go (Code is) p e =
             let long : length is ≡ n = code_length_is (items_of text) 1 0 (items_of text) is p ∙ sym read.count in
-            answers text out room (Refuses 16 0)
-            (checked (Code is) p ∙ rw (lt-leb (length is) (length out) (omega arith)) refl) refl refl
+            refuses text out room check.OutputLength 0
+            (checked (Code is) p ∙ rw (lt-leb (length is) (length out) (omega arith)) refl)
 
-    pub code_done : {after : List ℕ} → n ≤ length out → translated.Done ≡ translated_as (whole text)
-        → Written (whole text) 0 out after → Tries text room out (Answer (Done n)) after
+    pub code_done : {after : List ℕ} → n ≤ length out → Ok tt ≡ translated_as (whole text)
+        → Written (whole text) 0 out after → Tries text room out (Ok (Some n)) after
     code_done {after} h e w = go (said text) refl e w
       where
-        go : (c : Checked) → said text ≡ c → translated.Done ≡ translated_as (made_of c)
-            → Written (made_of c) 0 out after
-            → Tries text room out (Answer (Done n)) after
+        go : (c : Checked) → said text ≡ c → Ok tt ≡ translated_as (made_of c) → Written (made_of c) 0 out after
+            → Tries text room out (Ok (Some n)) after
         go (Fails m l) p e w = clash (cc)
         go (Code is) p e w =
             let long : length is ≡ n = code_length_is (items_of text) 1 0 (items_of text) is p ∙ sym read.count in
             let all : n ≡ length (halfwords_of is) = sym long ∙ sym (halfwords_length is) in
-            answers text out room (Assembles (halfwords_of is))
-            (checked (Code is) p ∙ rw (le-leb (length is) (length out) (omega arith)) refl)
-            (ap Done all) (w ∙ put_all (halfwords_of is) out (omega arith))
+            let is_code : assemble_of text (length out) ≡ Assembles (halfwords_of is) =
+            checked (Code is) p ∙ rw (le-leb (length is) (length out) (omega arith)) refl in (
+              ap (λ (m : ℕ). Ok m) all ∙ ap assembled_as (sym is_code),
+              w ∙ put_all (halfwords_of is) out (omega arith)
+                  ∙ ap (λ (z : Assembly). output_after z out) (sym is_code),
+            )
 
 -- 21
-pub no_line : (text out : List ℕ) (room : ℕ) {r : Counted} {t : Tried} {line : ℕ}
-    → r ≡ read_as (read_from 1 (lines_of text)) → r ≡ counted.NoLine line → t ≡ Answer (Refused 21 line)
-    → Tries text room out t out
+pub no_line : (text out : List ℕ) (room : ℕ) {f : TextRefusal} → Err f ≡ read_as (read_from 1 (lines_of text))
+    → Tries text room out (Err f) out
 unfolding assemble_of
-no_line text out room {line = line} told e is =
-    subst (λ (t : Tried). Tries text room out t out) (sym is) (go (read_from 1 (lines_of text)) refl (sym e ∙ told))
+no_line text out room {f} told = go (read_from 1 (lines_of text)) refl told
   where
-    go : (o : Read) → read_from 1 (lines_of text) ≡ o → counted.NoLine line ≡ read_as o
-        → Tries text room out (Answer (Refused 21 line)) out
+    go : (o : Read) → read_from 1 (lines_of text) ≡ o → Err f ≡ read_as o → Tries text room out (Err f) out
     go (Items xs) p e = clash (cc)
     go (NoLine k) p e =
-        let same : Refused 21 line ≡ Refused 21 k = cc in
-        answers text out room (Refuses 21 k) (ap (assemble_read (length out)) p) same refl
+        let same : f ≡ refusal_at check.Line k = cc in
+        subst (λ (r : TextRefusal). Tries text room out (Err r) out) (sym same)
+        (refuses text out room check.Line k (ap (assemble_read (length out)) p))
 
 -- a text that was read
-pub was_read : (text names numbers halfwords aims lines : List ℕ) {r : Counted} {n : ℕ} {flaw : Flaw}
-    → (r ≡ read_as (read_from 1 (lines_of text)))
-    × Entered names numbers halfwords aims lines (read_from 1 (lines_of text))
-    → r ≡ counted.Instructions n flaw → Unfolded text names numbers halfwords aims lines n flaw
-was_read text names numbers halfwords aims lines {n = n} {flaw = flaw} (told, entered) e =
-    go (read_from 1 (lines_of text)) refl (sym e ∙ told) entered
+pub was_read : (text : Text) (table : List Entry) (notes : List Note) {counted : Counted}
+    → Ok counted ≡ read_as (read_from 1 (lines_of text)) → Entered table notes (read_from 1 (lines_of text))
+    → Unfolded text table notes counted
+was_read text table notes {counted} told entered = go (read_from 1 (lines_of text)) refl told entered
   where
-    go : (o : Read) → read_from 1 (lines_of text) ≡ o → counted.Instructions n flaw ≡ read_as o
-        → Entered names numbers halfwords aims lines o → Unfolded text names numbers halfwords aims lines n flaw
+    go : (o : Read) → read_from 1 (lines_of text) ≡ o → Ok counted ≡ read_as o → Entered table notes o
+        → Unfolded text table notes counted
     go (NoLine k) p e h = clash (cc)
     go (Items xs) p e h =
-        let count : n ≡ instructions_in xs = cc in
-        let first : flaw ≡ flaw_after no_flaw [] xs = cc in
+        let same : counted ≡ record { n = instructions_in xs; flaw = flaw_after None [] xs } = cc in
+        let count : counted.n ≡ instructions_in xs = ap (λ (c : Counted). c.n) same in
+        let first : counted.flaw ≡ flaw_after None [] xs = ap (λ (c : Counted). c.flaw) same in
         record {
           known = record { all_read = rw p refl; holds = rw p h.holds };
-          size_aims = h.size_aims;
-          size_lines = h.size_lines;
           noted = λ l. rw p (h.noted (omega (arith, l, count)));
           count = rw p count;
           flaw_is = rw p first;
         }
 
--- what a try tells, by cases
-abbrev pub Answers : Text → List ℕ → Assembled → List ℕ → Type 0
-Answers text out r after =
-    (r ≡ assembled_as (assemble_of text (length out))) × (after ≡ output_after (assemble_of text (length out)) out)
-
-module _ (text out : List ℕ) (room : ℕ) {after : List ℕ} {t : Tried} (tried : Tries text room out t after) where
-  pub answered : {r : Assembled} → t ≡ Answer r → Answers text out r after
-  answered e = subst (λ (u : Tried). Tries text room out u after) e tried
-
-  pub outgrown : t ≡ Outgrown → (room < most_code) × (after ≡ out)
-  outgrown e = subst (λ (u : Tried). Tries text room out u after) e tried
-
--- with the room as it was
-pub in_room : (text out after : List ℕ) (t : Tried) {room other : ℕ} → room ≡ other → Tries text room out t after
-    → Tries text other out t after
-in_room text out after t e tried = subst (λ (n : ℕ). Tries text n out t after) e tried
-
 -- to have outgrown some room says no less of none
-pub in_none : (text out after : List ℕ) (room : ℕ) (t : Tried) → Tries text room out t after → Tries text 0 out t after
-in_none text out after room (Answer r) tried = tried
-in_none text out after room Outgrown tried = (omega arith, tried.1)
-
--- with the output as it was
-pub answers_again : (text : List ℕ) {out now after : List ℕ} {r : Assembled} → now ≡ out → Answers text now r after
-    → Answers text out r after
-answers_again text {after = after} {r = r} e a = subst (λ (o : List ℕ). Answers text o r after) e a
+pub in_none : (text out after : List ℕ) (room : ℕ) (r : Answer) → Tries text room out r after → Tries text 0 out r after
+in_none text out after room (Ok (Some n)) tried = tried
+in_none text out after room (Ok None) tried = (omega arith, tried.1)
+in_none text out after room (Err f) tried = tried

@@ -12,6 +12,8 @@ use lib.ListN.{length, get_or}
 use borrow.Author.Tests.{le-leb, lt-leb, le-ltb, leb-true, eq-eqb, ne_eqb}
 use Rattle.text.proofs.Words.{and_right}
 use Rattle.units.proofs.Cases.{lt_or_ge}
+use Rattle.refusals.specs.declared.check.Check.{Check}
+use Rattle.refusals.specs.declared.check.Check.TheVariants as check
 use Rattle.refusals.specs.declared.refusal.Refusal.{Refusal}
 use Rattle.isa.specs.declared.instruction.Instruction.{Instruction}
 use Rattle.isa.specs.declared.instruction.Instruction.TheVariants.{CmpHigh}
@@ -22,31 +24,24 @@ use Rattle.syntax.specs.Syntax.{given}
 use Rattle.syntax.specs.declared.parser.Item.{Item}
 use Rattle.assembler.specs.Assemble.{rows, instruction_of, in_fours, in_reach, branch_byte, halfword_in}
 use Rattle.assembler.specs.Passes.{item_in, field_meaning}
-use Rattle.assembler.specs.declared.fields.Meaning.{Meaning}
-use Rattle.assembler.specs.declared.fields.Meaning.TheVariants as meaning
 use Rattle.std.specs.Prelude.{Result, Ok, Err}
 
 -- what the encoder gives
-pub encoded_is : (i : Instruction) {e : (Result ℕ Refusal)} {h : ℕ} → e ≡ encode_of i → e ≡ Ok h
-    → meaning.Halfword h ≡ field_meaning (some i)
+pub encoded_is : (i : Instruction) {e : Result ℕ Refusal} {h : ℕ} → e ≡ encode_of i → h ≡ halfword_in e
+    → Ok h ≡ field_meaning (some i)
 unfolding field_meaning
-encoded_is i p q = ap (λ (x : Result ℕ Refusal). meaning.Halfword (halfword_in x)) (sym q ∙ p)
-
-pub refused_is : (i : Instruction) {e : (Result ℕ Refusal)} {r : Refusal} → e ≡ encode_of i → e ≡ Err r
-    → meaning.Halfword 0 ≡ field_meaning (some i)
-unfolding field_meaning
-refused_is i p q = ap (λ (x : Result ℕ Refusal). meaning.Halfword (halfword_in x)) (sym q ∙ p)
+encoded_is i p q = ap Ok (q ∙ ap halfword_in p)
 
 -- a test that passed, and one that didn't
-pub fits : (i : Instruction) {r : Meaning} {test : Bool} → test ≡ true → r ≡ field_meaning (some i)
+pub fits : (i : Instruction) {r : Result ℕ Check} {test : Bool} → test ≡ true → r ≡ field_meaning (some i)
     → r ≡ field_meaning (given test i)
 fits i e p = rw e p
 
-pub unfit : (i : Instruction) (test : Bool) → test ≡ false → meaning.Fault 23 ≡ field_meaning (given test i)
+pub unfit : (i : Instruction) (test : Bool) → test ≡ false → Err check.Value ≡ field_meaning (given test i)
 unfolding field_meaning
 unfit i test e = rw e refl
 
-pub fours : (i : Instruction) {r : Meaning} (most v : ℕ) → v % 4 ≡ 0 → r ≡ field_meaning (given (leb v most) i)
+pub fours : (i : Instruction) {r : Result ℕ Check} (most v : ℕ) → v % 4 ≡ 0 → r ≡ field_meaning (given (leb v most) i)
     → r ≡ field_meaning (given (in_fours most v) i)
 fours i most v e p = rw (eq-eqb (v % 4) 0 e) p
 
@@ -54,18 +49,18 @@ pub no_fours : (most v : ℕ) → (v % 4 ≡ 0 → ⊥) → in_fours most v ≡ 
 no_fours most v n = rw (ne_eqb (v % 4) 0 n) refl
 
 -- another way to put the same test and the same instruction
-given_as : {r : Meaning} (s t : Bool) (x y : Instruction) → s ≡ t → (s ≡ true → encode_of x ≡ encode_of y)
+given_as : {r : Result ℕ Check} (s t : Bool) (x y : Instruction) → s ≡ t → (s ≡ true → encode_of x ≡ encode_of y)
     → r ≡ field_meaning (given s x) → r ≡ field_meaning (given t y)
 unfolding field_meaning
 given_as {r} s t x y e same p = subst (λ (b : Bool). r ≡ field_meaning (given b y)) e (p ∙ go s same)
   where
     go : (b : Bool) → (b ≡ true → encode_of x ≡ encode_of y) → field_meaning (given b x) ≡ field_meaning (given b y)
-    go true same = ap (λ (e : Result ℕ Refusal). meaning.Halfword (halfword_in e)) (same refl)
+    go true same = ap (λ (e : Result ℕ Refusal). Ok (halfword_in e)) (same refl)
     go false same = refl
 
 -- a branch up, and one down
 module _ (i j condition : ℕ) where
-  pub branch_up : {r : Meaning} {offset : ℕ} → i ≤ j → offset ≡ min (j - i) 255
+  pub branch_up : {r : Result ℕ Check} {offset : ℕ} → i ≤ j → offset ≡ min (j - i) 255
       → r ≡ field_meaning (given (leb (j - i) 127) (Branch condition offset))
       → r ≡ field_meaning (given (in_reach i j) (Branch condition (branch_byte i j)))
   branch_up {r} {offset} h o p =
@@ -88,7 +83,7 @@ module _ (i j condition : ℕ) where
           let byte : offset ≡ branch_byte i j = omega arith in
           ap (λ (b : ℕ). encode_of (Branch condition b)) byte
 
-  pub branch_down : {r : Meaning} → j < i → i - j ≤ 128 → r ≡ field_meaning (some (Branch condition (256 - (i - j))))
+  pub branch_down : {r : Result ℕ Check} → j < i → i - j ≤ 128 → r ≡ field_meaning (some (Branch condition (256 - (i - j))))
       → r ≡ field_meaning (given (in_reach i j) (Branch condition (branch_byte i j)))
   branch_down h l p =
       let reach : in_reach i j ≡ true = rw (le-leb i (j + 128) (omega arith), le-leb j (i + 127) (omega arith)) refl in
@@ -97,7 +92,7 @@ module _ (i j condition : ℕ) where
       (p ∙ ap (λ (b : ℕ). field_meaning (some (Branch condition b))) byte)
 
   pub branch_far : j < i → 128 < i - j
-      → meaning.Fault 23 ≡ field_meaning (given (in_reach i j) (Branch condition (branch_byte i j)))
+      → Err check.Value ≡ field_meaning (given (in_reach i j) (Branch condition (branch_byte i j)))
   branch_far h l = unfit (Branch condition (branch_byte i j)) (in_reach i j)
       (rw (lt-leb i (j + 128) (omega arith)) refl)
 
@@ -186,32 +181,32 @@ module _ (x : Item) (i j : ℕ) where
   abbrev entry : ℕ → Option Instruction
   entry n = get_or (rows a b c i j) n none
 
-  abbrev Row : Meaning → Type 0
+  abbrev Row : Result ℕ Check → Type 0
   Row r = r ≡ field_meaning (instruction_of (item_in x) i j)
 
-  at_row : {r : Meaning} (n : ℕ) → x.row ≡ n → r ≡ field_meaning (entry n) → Row r
+  at_row : {r : Result ℕ Check} (n : ℕ) → x.row ≡ n → r ≡ field_meaning (entry n) → Row r
   at_row {r} n e p = subst (λ (k : ℕ). r ≡ field_meaning (entry k)) (sym e) p
 
-  pub no_row : x.row ≡ 0 → Row (meaning.Fault 23)
+  pub no_row : x.row ≡ 0 → Row (Err check.Value)
   unfolding field_meaning
   no_row e = at_row 0 e refl
 
-  pub past_rows : 19 ≤ x.row → Row (meaning.Fault 23)
+  pub past_rows : 19 ≤ x.row → Row (Err check.Value)
   unfolding field_meaning
   past_rows h = rw (nothing (rows a b c i j) x.row h) refl
 
   -- two registers
-  pub registers : (n : ℕ) (F : ℕ → ℕ → Instruction) {r : Meaning} {rs rd : ℕ}
+  pub registers : (n : ℕ) (F : ℕ → ℕ → Instruction) {r : Result ℕ Check} {rs rd : ℕ}
       → ((b a : ℕ) → encode_of (F (min b 255) (min a 255)) ≡ encode_of (F b a)) → some (F b a) ≡ entry n
       → x.row ≡ n → rs ≡ min b 255 → rd ≡ min a 255 → r ≡ field_meaning (some (F rs rd)) → Row r
   unfolding field_meaning
   registers n F {r} {rs} {rd} same is e s d p =
       let alike : encode_of (F rs rd) ≡ encode_of (F b a) = ap₂ (λ (y z : ℕ). encode_of (F y z)) s d ∙ same b a in
       at_row n e (subst (λ (o : Option Instruction). r ≡ field_meaning o) is
-      (p ∙ ap (λ (h : Result ℕ Refusal). meaning.Halfword (halfword_in h)) alike))
+      (p ∙ ap (λ (h : Result ℕ Refusal). Ok (halfword_in h)) alike))
 
   -- a register and a value that was tested
-  pub immediate : (n : ℕ) (F : ℕ → ℕ → Instruction) (test : Bool) (v : ℕ) {r : Meaning} {rd imm : ℕ}
+  pub immediate : (n : ℕ) (F : ℕ → ℕ → Instruction) (test : Bool) (v : ℕ) {r : Result ℕ Check} {rd imm : ℕ}
       → ((a v : ℕ) → encode_of (F (min a 255) v) ≡ encode_of (F a v))
       → (test ≡ true → v ≤ 255) → given test (F a v) ≡ entry n
       → x.row ≡ n → rd ≡ min a 255 → imm ≡ min v 255 → r ≡ field_meaning (given test (F rd imm)) → Row r
@@ -226,7 +221,7 @@ module _ (x : Item) (i j : ℕ) where
           ap₂ (λ (y z : ℕ). encode_of (F y z)) d whole ∙ same a v
 
   -- two registers and a value that was tested
-  pub memory : (n : ℕ) (F : ℕ → ℕ → ℕ → Instruction) (test : Bool) (v : ℕ) {r : Meaning} {offset rb rd : ℕ}
+  pub memory : (n : ℕ) (F : ℕ → ℕ → ℕ → Instruction) (test : Bool) (v : ℕ) {r : Result ℕ Check} {offset rb rd : ℕ}
       → ((v b a : ℕ) → encode_of (F v (min b 255) (min a 255)) ≡ encode_of (F v b a))
       → (test ≡ true → v ≤ 255) → given test (F v b a) ≡ entry n
       → x.row ≡ n → offset ≡ min v 255 → rb ≡ min b 255 → rd ≡ min a 255
@@ -243,7 +238,7 @@ module _ (x : Item) (i j : ℕ) where
           ap₂ (λ (y z : ℕ). encode_of (F offset y z)) s d
           ∙ ap (λ (y : ℕ). encode_of (F y (min b 255) (min a 255))) whole ∙ same v b a
 
-  pub branches : {r : Meaning} {rd : ℕ} → x.row ≡ 17 → rd ≡ min a 255
+  pub branches : {r : Result ℕ Check} {rd : ℕ} → x.row ≡ 17 → rd ≡ min a 255
       → r ≡ field_meaning (given (in_reach i j) (Branch rd (branch_byte i j))) → Row r
   branches {r} {rd} e d p =
       at_row 17 e
@@ -252,7 +247,7 @@ module _ (x : Item) (i j : ℕ) where
       alike : in_reach i j ≡ true → encode_of (Branch rd (branch_byte i j)) ≡ encode_of (Branch a (branch_byte i j))
       alike t = ap (λ (y : ℕ). encode_of (Branch y (branch_byte i j))) d ∙ branch_narrow a (branch_byte i j)
 
-  pub halts : {r : Meaning} {note : ℕ} → x.row ≡ 18 → note ≡ min a 255
+  pub halts : {r : Result ℕ Check} {note : ℕ} → x.row ≡ 18 → note ≡ min a 255
       → r ≡ field_meaning (given (leb a 255) (Halt note)) → Row r
   halts {r} {note} e d p = at_row 18 e (given_as (leb a 255) (leb a 255) (Halt note) (Halt a) refl alike p)
     where

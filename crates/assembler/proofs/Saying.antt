@@ -4,6 +4,7 @@ use mathlib.Core.List.{List}
 use mathlib.Core.Option.{Option, none, some}
 use Prim.Native.Nat.{ℕ}
 use lib.Dec.{eqb}
+use Rattle.refusals.specs.declared.check.Check.TheVariants as check
 use Rattle.isa.specs.declared.instruction.Instruction.{Instruction}
 use Rattle.syntax.specs.Syntax.{Item, branch_row}
 use Rattle.assembler.specs.Assemble.{is_label, value_at, instruction_of, Definition, definition_of}
@@ -21,7 +22,7 @@ label_kind : (k : ℕ) (d : Option Definition) → Kind true (label_said k d)
 label_kind k none = tt
 label_kind k (some d) = go (eqb d.line k)
   where
-    go : (b : Bool) → Kind true (cond b Nothing (Fault 22))
+    go : (b : Bool) → Kind true (cond b Nothing (Fault check.Label))
     go true = tt
     go false = tt
 
@@ -29,7 +30,7 @@ field_kind : (o : Option Instruction) → Kind false (field_said o)
 field_kind none = tt
 field_kind (some i) = tt
 
-branch_kind : (x : Item) (i : ℕ) (d : Option Definition) → Kind false (branch_said x i d)
+pub branch_kind : (x : Item) (i : ℕ) (d : Option Definition) → Kind false (branch_said x i d)
 branch_kind x i none = tt
 branch_kind x i (some d) = field_kind (instruction_of x i d.number)
 

@@ -1,105 +1,97 @@
 -- What single lines and notes say, by what the code asked.
-use mathlib.Core.Bool.{Bool, false}
 use mathlib.Core.List.{List}
 use mathlib.Core.Option.{Option, none, some}
 use mathlib.Core.Path.{◌≡◌, refl, ap, sym, ◌∙◌}
-use Prim.Native.Nat.{ℕ, ◌%◌, min}
-use lib.Dec.{ltb}
+use Prim.Native.Nat.{ℕ, min}
 use lib.ListN.{set}
 use borrow.Author.Tests.{eq-eqb, ne_eqb}
+use Rattle.std.specs.Prelude as Std
+use Rattle.std.specs.Prelude.{Result, Ok, Err, Some, None}
+use Rattle.std.specs.Option.{option_or}
+use Rattle.std.specs.Result.{result_err, result_unwrap_or}
+use Rattle.refusals.specs.declared.check.Check.{Check}
+use Rattle.refusals.specs.declared.check.Check.TheVariants as check
 use Rattle.labels.specs.Table.{probe_of}
+use Rattle.labels.specs.declared.table.Entry.{Entry}
 use Rattle.labels.specs.declared.table.Probed.{Probed}
 use Rattle.labels.specs.declared.table.Probed.TheVariants.{Here, Free}
 use Rattle.isa.specs.declared.instruction.Instruction.{Instruction}
+use Rattle.isa.specs.declared.instruction.Instruction.TheVariants as instruction
+use Rattle.text.specs.Text.{Text}
 use Rattle.syntax.specs.Syntax as Syntax
+use Rattle.syntax.specs.Syntax.{given}
 use Rattle.syntax.specs.declared.parser.Item.{Item}
-use Rattle.assembler.specs.Assemble.{instruction_of, instructions_in}
+use Rattle.assembler.specs.Assemble.{instruction_of, instructions_in, in_reach, branch_byte}
+use Rattle.assembler.specs.Assembled.{refusal_at}
 use Rattle.assembler.specs.Labels.{aim_of}
-use Rattle.assembler.specs.Reading.{label_no, field_no, instruction_no, line_no, first_flaw, field_halfword}
-use Rattle.assembler.specs.Reading.{halfword_noted, aim_noted, meant_halfword, meant_no}
-use Rattle.assembler.specs.Passes.{Known, items_of, item_in, aim_in, field_meaning, aimed_meaning, noted_meaning}
-use Rattle.assembler.specs.Passes.{is_above, out_after}
-use Rattle.assembler.specs.declared.definitions.Found.{Found}
-use Rattle.assembler.specs.declared.definitions.Found.TheVariants.{At}
-use Rattle.assembler.specs.declared.fields.Meaning.{Meaning}
-use Rattle.assembler.specs.declared.fields.Meaning.TheVariants as meaning
-use Rattle.assembler.specs.declared.reader.Flaw.{Flaw}
+use Rattle.assembler.specs.Reading.{label_no, field_no, instruction_no, line_no, first_flaw, field_halfword, says_of}
+use Rattle.assembler.specs.Reading.{note_of}
+use Rattle.assembler.specs.Passes.{Known, items_of, item_in, field_meaning, aimed_meaning}
+use Rattle.assembler.specs.declared.reader.Note.{Note}
+use Rattle.assembler.specs.declared.reader.Says.TheVariants.{Halfword, Branch}
+use Rattle.assembler.specs.declared.refusal.TextRefusal.{TextRefusal}
 use Rattle.assembler.proofs.Table.{here_aim, free_aim}
 
 -- the first flaw
-module _ (f : Flaw) (number line : ℕ) where
-  pub flaw_first : f.number ≡ 0 → record { number = number; line = line } ≡ first_flaw f number line
-  flaw_first e = rw (eq-eqb f.number 0 e) refl
+pub flaw_kept : (f : Std.Option TextRefusal) (line : ℕ) → f ≡ first_flaw f None line
+flaw_kept None line = refl
+flaw_kept (Some r) line = refl
 
-  pub flaw_kept : (f.number ≡ 0 → ⊥) → f ≡ first_flaw f number line
-  flaw_kept e = rw (ne_eqb f.number 0 e) refl
-
-module _ (f : Flaw) (k : ℕ) where
-  pub none_above : f.number ≡ 0 → false ≡ is_above f k
-  none_above e = rw (eq-eqb f.number 0 e) refl
-
-  pub some_above : {b : Bool} → (f.number ≡ 0 → ⊥) → b ≡ ltb f.line k → b ≡ is_above f k
-  some_above e p = rw (ne_eqb f.number 0 e) p
+pub flaw_or : (f : Std.Option TextRefusal) (c : Check) (line : ℕ)
+    → option_or f (Some (refusal_at c line)) ≡ first_flaw f (Some c) line
+flaw_or None c line = refl
+flaw_or (Some r) c line = refl
 
 -- a label
-module _ {text names numbers : List ℕ} {name : ℕ} {p : Probed} (known : Known text names numbers) (n : name ≡ 0 → ⊥)
-    (asked : p ≡ probe_of names name) where
-  pub label_again : {at : ℕ} → p ≡ Here at → 22 ≡ label_no (aim_of (items_of text) name)
+module _ {text : Text} {table : List Entry} {name : ℕ} {p : Probed} (known : Known text table) (n : name ≡ 0 → ⊥)
+    (asked : p ≡ probe_of table name) where
+  pub label_again : {at : ℕ} → p ≡ Here at → Some check.Label ≡ label_no (aim_of (items_of text) name)
   label_again e = sym (ap label_no (here_aim known.holds n (sym asked ∙ e)))
 
-  pub label_new : {at : ℕ} → p ≡ Free at → 0 ≡ label_no (aim_of (items_of text) name)
+  pub label_new : {at : ℕ} → p ≡ Free at → None ≡ label_no (aim_of (items_of text) name)
   label_new e = sym (ap label_no (free_aim known.holds n (sym asked ∙ e)))
-
-pub label_looked : (text : List ℕ) (name : ℕ) {r : ℕ} (found : Found) → aim_in found ≡ aim_of (items_of text) name
-    → r ≡ label_no (aim_in found) → r ≡ label_no (aim_of (items_of text) name)
-label_looked text name found e p = p ∙ ap label_no e
 
 -- an instruction's notes
 module _ (x : Item) (i : ℕ) where
   module _ (b : x.row ≡ 17) where
-    pub branch_no : 0 ≡ instruction_no (item_in x) i
+    pub branch_no : None ≡ instruction_no (item_in x) i
     branch_no = rw (eq-eqb x.row 17 b) refl
 
-    pub branch_halfword : (column : List ℕ) {after : List ℕ} {v : ℕ} → v ≡ min x.values.a 255
-        → after ≡ set column i v
-        → after ≡ set column i (halfword_noted (item_in x) i)
-    unfolding halfword_noted
-    branch_halfword column e p = p ∙ rw (eq-eqb x.row 17 b) (ap (set column i) e)
+    pub branch_note : (notes : List Note) (k : ℕ) {after : List Note} {v : ℕ} → v ≡ min x.values.a 255
+        → after ≡ set notes i (record { says = Branch v x.values.b; line = k })
+        → after ≡ set notes i (note_of (item_in x) i k)
+    unfolding says_of
+    branch_note notes k e p =
+        p ∙ rw (eq-eqb x.row 17 b)
+        (ap (λ (c : ℕ). set notes i (record { says = Branch c x.values.b; line = k })) e)
 
-    pub branch_aim : (column : List ℕ) {after : List ℕ} → after ≡ set column i x.values.b
-        → after ≡ set column i (aim_noted (item_in x))
-    unfolding aim_noted
-    branch_aim column p = rw (eq-eqb x.row 17 b) p
-
-  module _ (b : x.row ≡ 17 → ⊥) {said : Meaning} (asked : said ≡ field_meaning (instruction_of (item_in x) i 0)) where
-    meant : (o : Option Instruction) → meant_halfword (field_meaning o) ≡ field_halfword o
+  module _ (b : x.row ≡ 17 → ⊥) {said : Result ℕ Check}
+      (asked : said ≡ field_meaning (instruction_of (item_in x) i 0)) where
+    meant : (o : Option Instruction) → result_unwrap_or (field_meaning o) 0 ≡ field_halfword o
     unfolding field_meaning
     meant none = refl
     meant (some j) = refl
 
-    meant_no_is : (o : Option Instruction) → meant_no (field_meaning o) ≡ field_no o
+    meant_no : (o : Option Instruction) → result_err (field_meaning o) ≡ field_no o
     unfolding field_meaning
-    meant_no_is none = refl
-    meant_no_is (some j) = refl
+    meant_no none = refl
+    meant_no (some j) = refl
 
-    pub other_no : {r : ℕ} → r ≡ meant_no said → r ≡ instruction_no (item_in x) i
+    pub other_no : {r : Std.Option Check} → r ≡ result_err said → r ≡ instruction_no (item_in x) i
     other_no p =
-        p ∙ ap meant_no asked ∙ meant_no_is (instruction_of (item_in x) i 0) ∙ rw (ne_eqb x.row 17 b) refl
+        p ∙ ap result_err asked ∙ meant_no (instruction_of (item_in x) i 0) ∙ rw (ne_eqb x.row 17 b) refl
 
-    pub other_halfword : (column : List ℕ) {after : List ℕ} {h : ℕ} → h ≡ meant_halfword said → after ≡ set column i h
-        → after ≡ set column i (halfword_noted (item_in x) i)
-    unfolding halfword_noted
-    other_halfword column e p =
-        p ∙ ap (set column i) (e ∙ ap meant_halfword asked ∙ meant (instruction_of (item_in x) i 0))
-        ∙ rw (ne_eqb x.row 17 b) refl
-
-    pub other_aim : (column : List ℕ) {after : List ℕ} → after ≡ set column i 0
-        → after ≡ set column i (aim_noted (item_in x))
-    unfolding aim_noted
-    other_aim column p = rw (ne_eqb x.row 17 b) p
+    pub other_note : (notes : List Note) (k : ℕ) {after : List Note} {h : ℕ} → h ≡ result_unwrap_or said 0
+        → after ≡ set notes i (record { says = Halfword h; line = k })
+        → after ≡ set notes i (note_of (item_in x) i k)
+    unfolding says_of
+    other_note notes k e p =
+        p ∙ rw (ne_eqb x.row 17 b)
+        (ap (λ (h : ℕ). set notes i (record { says = Halfword h; line = k }))
+        (e ∙ ap (λ (r : Result ℕ Check). result_unwrap_or r 0) asked ∙ meant (instruction_of (item_in x) i 0)))
 
 -- a line's check
-module _ (above : List Syntax.Item) (x : Item) {r : ℕ} where
+module _ (above : List Syntax.Item) (x : Item) {r : Std.Option Check} where
   pub line_label : x.row ≡ 0 → r ≡ label_no (aim_of above x.values.a) → r ≡ line_no above (item_in x)
   unfolding line_no
   line_label e p = rw (eq-eqb x.row 0 e) p
@@ -109,21 +101,11 @@ module _ (above : List Syntax.Item) (x : Item) {r : ℕ} where
   unfolding line_no
   line_other i e n p = rw (ne_eqb x.row 0 e) (p ∙ ap (instruction_no (item_in x)) n)
 
--- what notes say
-pub aimed_there : {found : Found} {number : ℕ} {r : Meaning} (condition i : ℕ) → found ≡ At number
-    → r ≡ aimed_meaning condition i (some number) → r ≡ aimed_meaning condition i (aim_in found)
-aimed_there condition i e p = rw e p
+-- what a branch says
+pub aimed_nowhere : (condition i : ℕ) {o : Std.Option ℕ} → None ≡ o → Err check.Label ≡ aimed_meaning condition i o
+aimed_nowhere condition i e = ap (aimed_meaning condition i) e
 
-module _ (items : List Syntax.Item) (i h aim : ℕ) where
-  pub said_halfword : aim ≡ 0 → meaning.Halfword h ≡ noted_meaning items i h aim
-  unfolding noted_meaning
-  said_halfword e = rw (eq-eqb aim 0 e) refl
-
-  pub said_branch : {r : Meaning} (found : Found) → (aim ≡ 0 → ⊥) → aim_in found ≡ aim_of items aim
-      → r ≡ aimed_meaning (h % 256) i (aim_in found) → r ≡ noted_meaning items i h aim
-  unfolding noted_meaning
-  said_branch found n e p = rw (ne_eqb aim 0 n) (p ∙ ap (aimed_meaning (h % 256) i) e)
-
-pub emitted : {said : Meaning} {h : ℕ} {after : List ℕ} (out : List ℕ) (i : ℕ) → said ≡ meaning.Halfword h
-    → after ≡ set out i h → after ≡ out_after said i out
-emitted out i is p = rw is p
+pub aimed_there : (condition i : ℕ) {number : ℕ} {o : Std.Option ℕ} {r : Result ℕ Check} → Some number ≡ o
+    → r ≡ field_meaning (given (in_reach i number) (instruction.Branch condition (branch_byte i number)))
+    → r ≡ aimed_meaning condition i o
+aimed_there condition i e p = p ∙ ap (aimed_meaning condition i) e

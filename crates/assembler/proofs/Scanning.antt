@@ -16,12 +16,13 @@ use Rattle.text.specs.Text.{Text, lines_of}
 use Rattle.syntax.specs.Syntax.{Item, label_row}
 use Rattle.syntax.specs.Parser.{parsed_at}
 use Rattle.syntax.specs.declared.parser.Item as Code
-use Rattle.syntax.specs.declared.parser.Parsed.TheVariants as parsed
+use Rattle.std.specs.Prelude.{Some, None}
+use Rattle.syntax.specs.Parser.{line_of}
+use Rattle.labels.specs.declared.table.Entry.{Entry}
 use Rattle.assembler.specs.Assemble.{Read, Items, NoLine, reading, read_from, is_label, value_at, definition_from}
 use Rattle.assembler.specs.Labels.{number_of, aim_of}
 use Rattle.assembler.specs.Reading.{count_after}
-use Rattle.assembler.specs.Passes.{AllRead, Known, items_of, aim_in}
-use Rattle.assembler.specs.declared.definitions.Found.TheVariants.{At, Nowhere}
+use Rattle.assembler.specs.Passes.{AllRead, Known, items_of}
 use Rattle.assembler.proofs.Table.{Right, lookup_right}
 use Rattle.assembler.proofs.Prefix.{no_items, same_items, next_within}
 use Rattle.assembler.proofs.Steps.{not_read, Lined, lined, read_line}
@@ -40,7 +41,7 @@ first_scan {text} e =
     record { k = 1; rest = items_of text; inside = omega arith; number_le = omega arith; left = e; answer = refl }
 
 pub scan_none : {text : Text} {name at i : ℕ} → Scan text name at i → at ≡ length text
-    → aim_in Nowhere ≡ aim_of (items_of text) name
+    → None ≡ aim_of (items_of text) name
 unfolding definition_from read_from lines_of
 scan_none {text} {name} {at} {i} s e =
     let none_left : s.rest ≡ [] =
@@ -49,7 +50,7 @@ scan_none {text} {name} {at} {i} s e =
     sym (ap (λ (l : List Item). number_of (definition_from s.k i name l)) none_left) ∙ s.answer
 
 pub scan_line : {A : Type 0} {text : Text} {name at i : ℕ} → Scan text name at i → at < length text
-    → parsed_at at (lines_of (drop at text)) ≡ parsed.NoLine → A
+    → parsed_at at (lines_of (drop at text)) ≡ None → A
 scan_line {text = text} {at = at} s h e = no_items (sym (not_read text at h e s.k) ∙ s.left)
 
 abbrev defines : Item → ℕ → Bool
@@ -94,7 +95,7 @@ behind k x (Items xs) rest e = (xs, refl, same_items (sym e))
 behind k x (NoLine n) rest e = no_items e
 
 module _ {text : Text} {name at i : ℕ} (s : Scan text name at i) (y : Code.Item) {next : ℕ}
-    (q : parsed_at at (lines_of (drop at text)) ≡ parsed.Line y next)
+    (q : parsed_at at (lines_of (drop at text)) ≡ line_of y next)
     {d : Bool} (asked : d ≡ (eqb y.row label_row && eqb y.values.a name)) where
   here : Lined text at y next
   here = lined q
@@ -107,7 +108,7 @@ module _ {text : Text} {name at i : ℕ} (s : Scan text name at i) (y : Code.Ite
   same : d ≡ defines here.item name
   same = asked ∙ ap (λ (z : Code.Item). eqb z.row label_row && eqb z.values.a name) here.item_is
 
-  pub scan_found : d ≡ true → aim_in (At i) ≡ aim_of (items_of text) name
+  pub scan_found : d ≡ true → Some i ≡ aim_of (items_of text) name
   scan_found t =
       ap number_of (sym (defined_here s.k i name here.item later.0 (sym same ∙ t))
       ∙ ap (definition_from s.k i name) (sym later.2)) ∙ s.answer
@@ -129,15 +130,15 @@ module _ {text : Text} {name at i : ℕ} (s : Scan text name at i) (y : Code.Ite
       }
 
 -- by the table
-module _ {text names numbers : List ℕ} {name : ℕ} {known : Labelled}
-    (ready : Known text names numbers) (named : name ≡ 0 → ⊥) (asked : known ≡ lookup_of names numbers name) where
+module _ {text : Text} {table : List Entry} {name : ℕ} {known : Labelled}
+    (ready : Known text table) (named : name ≡ 0 → ⊥) (asked : known ≡ lookup_of table name) where
   right : Right (aim_of (items_of text) name) known
   right =
       subst (Right (aim_of (items_of text) name)) (sym asked)
-      (lookup_right names numbers (items_of text) name ready.holds named)
+      (lookup_right table (items_of text) name ready.holds named)
 
-  pub found_there : {number : ℕ} → known ≡ Defined number → aim_in (At number) ≡ aim_of (items_of text) name
+  pub found_there : {number : ℕ} → known ≡ Defined number → Some number ≡ aim_of (items_of text) name
   found_there e = sym (subst (Right (aim_of (items_of text) name)) e right)
 
-  pub found_nowhere : known ≡ Undefined → aim_in Nowhere ≡ aim_of (items_of text) name
+  pub found_nowhere : known ≡ Undefined → None ≡ aim_of (items_of text) name
   found_nowhere e = sym (subst (Right (aim_of (items_of text) name)) e right)

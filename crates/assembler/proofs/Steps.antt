@@ -11,9 +11,10 @@ use lib.ListN.{length, drop, length-drop}
 use Rattle.units.proofs.Cases.{clash}
 use Rattle.text.specs.Text.{Text, feed, Lines, remainder, line, in_front, lines_of}
 use Rattle.syntax.specs.Syntax.{Item, parse}
-use Rattle.syntax.specs.Parser.{item_as, parsed_as, parsed_at}
+use Rattle.syntax.specs.Parser.{item_as, line_of, parsed_as, parsed_at}
 use Rattle.syntax.specs.declared.parser.Item as Code
-use Rattle.syntax.specs.declared.parser.Parsed.TheVariants as parsed
+use Rattle.syntax.specs.declared.parser.Line.{Line}
+use Rattle.std.specs.Prelude.{None}
 use Rattle.assembler.specs.Assemble.{Read, NoLine, reading, read_from}
 use Rattle.assembler.proofs.Prefix.{lines_behind}
 
@@ -29,17 +30,17 @@ no_rest (c ∷ u) e = go (eqb c feed) (lines_of u) e
 
 -- no line starts there
 pub not_read : (text : Text) (at : ℕ) → at < length text
-    → parsed_at at (lines_of (drop at text)) ≡ parsed.NoLine → (k : ℕ) → read_from k (lines_of (drop at text))
+    → parsed_at at (lines_of (drop at text)) ≡ None → (k : ℕ) → read_from k (lines_of (drop at text))
     ≡ NoLine k
 unfolding read_from
 not_read text at h e k = go (lines_of (drop at text)) refl e
   where
-    unparsed : (next : ℕ) (o : Option Item) (later : Read) → parsed_as next o ≡ parsed.NoLine
+    unparsed : (next : ℕ) (o : Option Item) (later : Read) → parsed_as next o ≡ None
         → reading k o later ≡ NoLine k
     unparsed next none later e = refl
     unparsed next (some x) later e = clash (cc)
 
-    go : (ls : Lines) → lines_of (drop at text) ≡ ls → parsed_at at ls ≡ parsed.NoLine → read_from k ls ≡ NoLine k
+    go : (ls : Lines) → lines_of (drop at text) ≡ ls → parsed_at at ls ≡ None → read_from k ls ≡ NoLine k
     go (remainder []) q e =
         let z : ⊥ = omega (arith, h, length-drop at text, ap length (no_rest (drop at text) q)) in absurd z
     go (remainder (c ∷ t)) q e = refl
@@ -56,15 +57,17 @@ pub record Lined (text : Text) (at : ℕ) (y : Code.Item) (next : ℕ) : Type 0 
   pub next_is : next ≡ at + length written + 1
 
 pub lined : {text : Text} {at : ℕ} {y : Code.Item} {next : ℕ}
-    → parsed_at at (lines_of (drop at text)) ≡ parsed.Line y next → Lined text at y next
+    → parsed_at at (lines_of (drop at text)) ≡ line_of y next → Lined text at y next
 lined {text} {at} {y} {next} e = go (lines_of (drop at text)) refl e
   where
-    found : (n : ℕ) (o : Option Item) → parsed_as n o ≡ parsed.Line y next
+    found : (n : ℕ) (o : Option Item) → parsed_as n o ≡ line_of y next
         → (x : Item) × (o ≡ some x) × (y ≡ item_as x) × (next ≡ n)
     found n none e = clash (cc)
-    found n (some x) e = (x, refl, cc, cc)
+    found n (some x) e =
+        let same : record { item = item_as x; next = n } ≡ record { item = y; next = next } = cc in
+        (x, refl, sym (ap (λ (l : Line). l.item) same), sym (ap (λ (l : Line). l.next) same))
 
-    go : (ls : Lines) → lines_of (drop at text) ≡ ls → parsed_at at ls ≡ parsed.Line y next → Lined text at y next
+    go : (ls : Lines) → lines_of (drop at text) ≡ ls → parsed_at at ls ≡ line_of y next → Lined text at y next
     go (remainder t) q e = clash (cc)
     go (line t ls) q e =
         let f = found (at + length t + 1) (parse t) e in

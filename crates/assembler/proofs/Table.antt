@@ -12,8 +12,11 @@ use borrow.Author.Tests.{eqb-true, eqb-false, eq-eqb, ne_eqb}
 use Rattle.units.proofs.Cases.{clash}
 use Rattle.syntax.specs.Syntax.{Item}
 use Rattle.assembler.specs.Assemble.{is_label, value_at, instructions_in, Definition, definition_from, definition_of}
-use Rattle.labels.specs.Table.{home, next_place, tries, probe_from, probe_of, entered, labels_after, lookup_of}
-use Rattle.labels.specs.Table.{labelled}
+use Rattle.std.specs.Prelude as Std
+use Rattle.std.specs.Prelude.{Some, None}
+use Rattle.labels.specs.Table.{free_entry, name_at, number_at, home, next_place, tries, probe_from, probe_of, entered}
+use Rattle.labels.specs.Table.{table_after, lookup_of, labelled}
+use Rattle.labels.specs.declared.table.Entry.{Entry}
 use Rattle.assembler.specs.Labels.{number_of, aim_of, Holds}
 use Rattle.labels.specs.declared.table.Probed.{Probed}
 use Rattle.labels.specs.declared.table.Probed.TheVariants.{Here, Free, Crowded}
@@ -63,10 +66,10 @@ definition_append k i n (x ∷ xs) ys =
 stays : (n : ℕ) (xs ys : List Item) (d : Definition) → definition_of n xs ≡ some d → definition_of n (xs ++ ys) ≡ some d
 stays n xs ys d e = definition_append 1 0 n xs ys ∙ rw e refl
 
-pub stays_aim : (n : ℕ) (xs ys : List Item) (v : ℕ) → aim_of xs n ≡ some v → aim_of (xs ++ ys) n ≡ some v
+pub stays_aim : (n : ℕ) (xs ys : List Item) (v : ℕ) → aim_of xs n ≡ Some v → aim_of (xs ++ ys) n ≡ Some v
 stays_aim n xs ys v = go (definition_of n xs) refl
   where
-    go : (o : Option Definition) → definition_of n xs ≡ o → number_of o ≡ some v → aim_of (xs ++ ys) n ≡ some v
+    go : (o : Option Definition) → definition_of n xs ≡ o → number_of o ≡ Some v → aim_of (xs ++ ys) n ≡ Some v
     go none e q = clash (cc)
     go (some d) e q = ap number_of (stays n xs ys d e) ∙ q
 
@@ -101,235 +104,235 @@ frees : (a b : ℕ) → Free a ≡ Free b → a ≡ b
 frees a b e = cc
 
 -- a probe past a place that is filled
-module _ (places : ℕ) (names : List ℕ) (at m : ℕ) (z : get_or names at 0 ≡ 0) (l : at < length names) where
+module _ (places : ℕ) (table : List Entry) (at m v : ℕ) (z : name_at table at ≡ 0) (l : at < length table) where
   abbrev next : ℕ → ℕ
   next a = next_place places a
 
+  abbrev filled : List Entry
+  filled = set table at (record { name = m; number = v })
+
+  filled_name : name_at filled at ≡ m
+  filled_name = ap (λ (e : Entry). e.name) (get_or-set_same table at (record { name = m; number = v }) free_entry l)
+
+  filled_other : (a : ℕ) → (a ≡ at → ⊥) → name_at filled a ≡ name_at table a
+  filled_other a n =
+      ap (λ (e : Entry). e.name) (get_or-set_other table at a (record { name = m; number = v }) free_entry n)
+
   -- found where it was put
-  probe_put : (t a : ℕ) → probe_from places t a names m ≡ Free at → probe_from places t a (set names at m) m ≡ Here at
+  probe_put : (t a : ℕ) → probe_from places t a table m ≡ Free at → probe_from places t a filled m ≡ Here at
   unfolding probe_from
   probe_put zero a e = crowded_free at e
   probe_put (suc t) a e = go (eqb a at) refl (probe_put t (next a))
     where
       pick : (x y : Bool) → (a ≡ at → ⊥)
-          → (probe_from places t (next a) names m ≡ Free at → probe_from places t (next a) (set names at m) m ≡ Here at)
-          → cond x (Here a) (cond y (Free a) (probe_from places t (next a) names m)) ≡ Free at
-          → cond x (Here a) (cond y (Free a) (probe_from places t (next a) (set names at m) m)) ≡ Here at
+          → (probe_from places t (next a) table m ≡ Free at → probe_from places t (next a) filled m ≡ Here at)
+          → cond x (Here a) (cond y (Free a) (probe_from places t (next a) table m)) ≡ Free at
+          → cond x (Here a) (cond y (Free a) (probe_from places t (next a) filled m)) ≡ Here at
       pick true y n r e = here_free a at e
       pick false true n r e = absurd (n (frees a at e))
       pick false false n r e = r e
 
       go : (b : Bool) → eqb a at ≡ b
-          → (probe_from places t (next a) names m ≡ Free at → probe_from places t (next a) (set names at m) m ≡ Here at)
-          → cond (eqb (get_or (set names at m) a 0) m) (Here a)
-          (cond (eqb (get_or (set names at m) a 0) 0) (Free a) (probe_from places t (next a) (set names at m) m))
+          → (probe_from places t (next a) table m ≡ Free at → probe_from places t (next a) filled m ≡ Here at)
+          → cond (eqb (name_at filled a) m) (Here a)
+          (cond (eqb (name_at filled a) 0) (Free a) (probe_from places t (next a) filled m))
           ≡ Here at
       go true q r =
           let p : a ≡ at = eqb-true a at q in
-          let s : get_or (set names at m) a 0 ≡ m =
-          ap (λ (x : ℕ). get_or (set names at m) x 0) p ∙ get_or-set_same names at m 0 l in
-          rw (eq-eqb (get_or (set names at m) a 0) m s) (ap Here p)
+          let s : name_at filled a ≡ m = ap (name_at filled) p ∙ filled_name in
+          rw (eq-eqb (name_at filled a) m s) (ap Here p)
       go false q r =
           let n : a ≡ at → ⊥ = eqb-false a at q in
-          rw (get_or-set_other names at a m 0 n) (pick (eqb (get_or names a 0) m) (eqb (get_or names a 0) 0) n r e)
+          rw (filled_other a n) (pick (eqb (name_at table a) m) (eqb (name_at table a) 0) n r e)
 
   -- another name's probe that ends at a free place did so before
-  probe_before : (t a n b : ℕ) → (n ≡ 0 → ⊥) → probe_from places t a (set names at m) n ≡ Free b
-      → (d : ℕ) × (probe_from places t a names n ≡ Free d)
+  probe_before : (t a n b : ℕ) → (n ≡ 0 → ⊥) → probe_from places t a filled n ≡ Free b
+      → (d : ℕ) × (probe_from places t a table n ≡ Free d)
   unfolding probe_from
   probe_before zero a n b f e = crowded_free b e
   probe_before (suc t) a n b f e = go (eqb a at) refl (probe_before t (next a) n b f)
     where
       pick : (x y : Bool)
-          → (probe_from places t (next a) (set names at m) n ≡ Free b
-          → (d : ℕ) × (probe_from places t (next a) names n ≡ Free d))
-          → cond x (Here a) (cond y (Free a) (probe_from places t (next a) (set names at m) n)) ≡ Free b
-          → (d : ℕ) × (cond x (Here a) (cond y (Free a) (probe_from places t (next a) names n)) ≡ Free d)
+          → (probe_from places t (next a) filled n ≡ Free b
+          → (d : ℕ) × (probe_from places t (next a) table n ≡ Free d))
+          → cond x (Here a) (cond y (Free a) (probe_from places t (next a) filled n)) ≡ Free b
+          → (d : ℕ) × (cond x (Here a) (cond y (Free a) (probe_from places t (next a) table n)) ≡ Free d)
       pick true y r e = here_free a b e
       pick false true r e = (a, refl)
       pick false false r e = r e
 
       go : (x : Bool) → eqb a at ≡ x
-          → (probe_from places t (next a) (set names at m) n ≡ Free b
-          → (d : ℕ) × (probe_from places t (next a) names n ≡ Free d))
-          → (d : ℕ) × (cond (eqb (get_or names a 0) n) (Here a)
-          (cond (eqb (get_or names a 0) 0) (Free a) (probe_from places t (next a) names n)) ≡ Free d)
+          → (probe_from places t (next a) filled n ≡ Free b
+          → (d : ℕ) × (probe_from places t (next a) table n ≡ Free d))
+          → (d : ℕ) × (cond (eqb (name_at table a) n) (Here a)
+          (cond (eqb (name_at table a) 0) (Free a) (probe_from places t (next a) table n)) ≡ Free d)
       go true q r =
-          let p : get_or names a 0 ≡ 0 = ap (λ (x : ℕ). get_or names x 0) (eqb-true a at q) ∙ z in
-          (a, rw (ne_eqb (get_or names a 0) n (λ w. f (sym w ∙ p)), eq-eqb (get_or names a 0) 0 p))
+          let p : name_at table a ≡ 0 = ap (name_at table) (eqb-true a at q) ∙ z in
+          (a, rw (ne_eqb (name_at table a) n (λ w. f (sym w ∙ p)), eq-eqb (name_at table a) 0 p))
       go false q r =
-          pick (eqb (get_or names a 0) n) (eqb (get_or names a 0) 0) r
-          (rw (get_or-set_other names at a m 0 (eqb-false a at q)) at e)
+          pick (eqb (name_at table a) n) (eqb (name_at table a) 0) r
+          (rw (filled_other a (eqb-false a at q)) at e)
 
 -- a free place holds no name
-free_zero : (places t a : ℕ) (names : List ℕ) (n at : ℕ) → probe_from places t a names n ≡ Free at → get_or names at 0
-    ≡ 0
+free_zero : (places t a : ℕ) (table : List Entry) (n at : ℕ) → probe_from places t a table n ≡ Free at
+    → name_at table at ≡ 0
 unfolding probe_from
-free_zero places zero a names n at e = crowded_free at e
-free_zero places (suc t) a names n at e =
-    go (eqb (get_or names a 0) n) (eqb (get_or names a 0) 0) refl (free_zero places t (next_place places a) names n at)
-    e
+free_zero places zero a table n at e = crowded_free at e
+free_zero places (suc t) a table n at e =
+    go (eqb (name_at table a) n) (eqb (name_at table a) 0) refl (free_zero places t (next_place places a) table n at) e
   where
-    go : (x y : Bool) → eqb (get_or names a 0) 0 ≡ y
-        → (probe_from places t (next_place places a) names n ≡ Free at → get_or names at 0 ≡ 0)
-        → cond x (Here a) (cond y (Free a) (probe_from places t (next_place places a) names n)) ≡ Free at
-        → get_or names at 0 ≡ 0
+    go : (x y : Bool) → eqb (name_at table a) 0 ≡ y
+        → (probe_from places t (next_place places a) table n ≡ Free at → name_at table at ≡ 0)
+        → cond x (Here a) (cond y (Free a) (probe_from places t (next_place places a) table n)) ≡ Free at
+        → name_at table at ≡ 0
     go true y q r e = here_free a at e
-    go false true q r e = ap (λ (x : ℕ). get_or names x 0) (sym (frees a at e)) ∙ eqb-true (get_or names a 0) 0 q
+    go false true q r e = ap (name_at table) (sym (frees a at e)) ∙ eqb-true (name_at table a) 0 q
     go false false q r e = r e
 
 -- where a name is found it stands
-here_name : (places t a : ℕ) (names : List ℕ) (n at : ℕ) → probe_from places t a names n ≡ Here at → get_or names at 0
-    ≡ n
+here_name : (places t a : ℕ) (table : List Entry) (n at : ℕ) → probe_from places t a table n ≡ Here at
+    → name_at table at ≡ n
 unfolding probe_from
-here_name places zero a names n at e = clash (cc)
-here_name places (suc t) a names n at e =
-    go (eqb (get_or names a 0) n) (eqb (get_or names a 0) 0) refl (here_name places t (next_place places a) names n at)
-    e
+here_name places zero a table n at e = clash (cc)
+here_name places (suc t) a table n at e =
+    go (eqb (name_at table a) n) (eqb (name_at table a) 0) refl (here_name places t (next_place places a) table n at) e
   where
-    go : (x y : Bool) → eqb (get_or names a 0) n ≡ x
-        → (probe_from places t (next_place places a) names n ≡ Here at → get_or names at 0 ≡ n)
-        → cond x (Here a) (cond y (Free a) (probe_from places t (next_place places a) names n)) ≡ Here at
-        → get_or names at 0 ≡ n
-    go true y q r e = let p : a ≡ at = cc in ap (λ (x : ℕ). get_or names x 0) (sym p) ∙ eqb-true (get_or names a 0) n q
+    go : (x y : Bool) → eqb (name_at table a) n ≡ x
+        → (probe_from places t (next_place places a) table n ≡ Here at → name_at table at ≡ n)
+        → cond x (Here a) (cond y (Free a) (probe_from places t (next_place places a) table n)) ≡ Here at
+        → name_at table at ≡ n
+    go true y q r e = let p : a ≡ at = cc in ap (name_at table) (sym p) ∙ eqb-true (name_at table a) n q
     go false true q r e = here_free at a (sym e)
     go false false q r e = r e
 
 -- a probe is right: of a name that stands in the table, and of one that doesn't
-pub here_aim : {names numbers : List ℕ} {items : List Item} {name at : ℕ} → Holds names numbers items
-    → (name ≡ 0 → ⊥) → probe_of names name ≡ Here at → aim_of items name ≡ some (get_or numbers at 0)
+pub here_aim : {table : List Entry} {items : List Item} {name at : ℕ} → Holds table items → (name ≡ 0 → ⊥)
+    → probe_of table name ≡ Here at → aim_of items name ≡ Some (number_at table at)
 unfolding probe_of
-here_aim {names} {numbers} {items} {name} {at} h n e =
-    let q : get_or names at 0 ≡ name = here_name (length names) tries (home (length names) name) names name at e in
-    subst (λ (x : ℕ). aim_of items x ≡ some (get_or numbers at 0)) q (h.stored at (λ w. n (sym q ∙ w)))
+here_aim {table} {items} {name} {at} h n e =
+    let q : name_at table at ≡ name = here_name (length table) tries (home (length table) name) table name at e in
+    subst (λ (x : ℕ). aim_of items x ≡ Some (number_at table at)) q (h.stored at (λ w. n (sym q ∙ w)))
 
-pub free_aim : {names numbers : List ℕ} {items : List Item} {name at : ℕ} → Holds names numbers items
-    → (name ≡ 0 → ⊥) → probe_of names name ≡ Free at → aim_of items name ≡ none
+pub free_aim : {table : List Entry} {items : List Item} {name at : ℕ} → Holds table items → (name ≡ 0 → ⊥)
+    → probe_of table name ≡ Free at → aim_of items name ≡ None
 free_aim {name = name} {at = at} h n e = ap number_of (h.free name at n e)
 
 -- a lookup is right
-abbrev pub Right : Option ℕ → Labelled → Type 0
-Right o (Defined number) = o ≡ some number
-Right o Undefined = o ≡ none
+abbrev pub Right : Std.Option ℕ → Labelled → Type 0
+Right o (Defined number) = o ≡ Some number
+Right o Undefined = o ≡ None
 Right o Unknown = Unit {0}
 
-pub lookup_right : (names numbers : List ℕ) (items : List Item) (name : ℕ) → Holds names numbers items
-    → (name ≡ 0 → ⊥)
-    → Right (aim_of items name) (lookup_of names numbers name)
-lookup_right names numbers items name h n = go (probe_of names name) refl
+pub lookup_right : (table : List Entry) (items : List Item) (name : ℕ) → Holds table items → (name ≡ 0 → ⊥)
+    → Right (aim_of items name) (lookup_of table name)
+lookup_right table items name h n = go (probe_of table name) refl
   where
-    go : (p : Probed) → probe_of names name ≡ p → Right (aim_of items name) (labelled p numbers)
+    go : (p : Probed) → probe_of table name ≡ p → Right (aim_of items name) (labelled p table)
     go (Here at) e = here_aim h n e
     go (Free at) e = free_aim h n e
     go Crowded e = tt
 
 -- a line that is no label leaves it true
-pub instruction_holds : (names numbers : List ℕ) (items : List Item) (x : Item) → is_label x ≡ false
-    → Holds names numbers items → Holds names numbers (items ++ (x ∷ []))
-instruction_holds names numbers items x e h =
+pub instruction_holds : (table : List Entry) (items : List Item) (x : Item) → is_label x ≡ false → Holds table items
+    → Holds table (items ++ (x ∷ []))
+instruction_holds table items x e h =
     record {
       size = h.size;
-      size_numbers = h.size_numbers;
-      stored = λ at n. stays_aim (get_or names at 0) items (x ∷ []) _ (h.stored at n);
+      stored = λ at n. stays_aim (name_at table at) items (x ∷ []) _ (h.stored at n);
       free = λ name at n q. more name items x (h.free name at n q)
           ∙ no_label (1 + length items) (0 + instructions_in items) name x e;
     }
 
 -- a first definition at its free place
-put_holds : (names numbers : List ℕ) (items : List Item) (m at : ℕ) → (m ≡ 0 → ⊥)
-    → Holds names numbers items → probe_of names m ≡ Free at
-    → Holds (set names at m) (set numbers at (0 + instructions_in items)) (items ++ (label_item m ∷ []))
-unfolding probe_of
-put_holds names numbers items m at n h e =
-    record {
-      size = omega (arith, long, h.size);
-      size_numbers = length-set numbers at (0 + instructions_in items) ∙ h.size_numbers ∙ sym long;
-      stored = λ b z. stored b (eqb b at) refl z;
-      free = λ name b z q. free name b (eqb m name) refl z
-          (subst (λ (l : ℕ). probe_from l tries (home l name) (set names at m) name ≡ Free b) long q);
-    }
-  where
-    long : length (set names at m) ≡ length names
-    long = length-set names at m
+module _ (table : List Entry) (items : List Item) (m at : ℕ) (n : m ≡ 0 → ⊥) (h : Holds table items)
+    (e : probe_of table m ≡ Free at) where
+  abbrev entry : Entry
+  entry = record { name = m; number = 0 + instructions_in items }
 
-    room : at < length names
-    room = inside_free names m at (Free at) h.size (sym e) refl
+  abbrev after : List Entry
+  after = set table at entry
 
-    zero_at : get_or names at 0 ≡ 0
-    zero_at = free_zero (length names) tries (home (length names) m) names m at e
+  abbrev longer : List Item
+  longer = items ++ (label_item m ∷ [])
 
-    stored_at : aim_of (items ++ (label_item m ∷ [])) (get_or (set names at m) at 0)
-        ≡ some (get_or (set numbers at (0 + instructions_in items)) at 0)
-    stored_at =
-        let b : at < length numbers = omega (arith, room, h.size_numbers) in
-        rw (get_or-set_same names at m 0 room, get_or-set_same numbers at (0 + instructions_in items) 0 b)
-        (ap number_of (more m items (label_item m) (h.free m at n e)
-        ∙ this_label (1 + length items) (0 + instructions_in items) m))
+  room : at < length table
+  room = inside_free table m at (Free at) h.size (sym e) refl
 
-    stored : (b : ℕ) (x : Bool) → eqb b at ≡ x → (get_or (set names at m) b 0 ≡ 0 → ⊥)
-        → aim_of (items ++ (label_item m ∷ [])) (get_or (set names at m) b 0)
-        ≡ some (get_or (set numbers at (0 + instructions_in items)) b 0)
-    stored b true q z =
-        subst (λ (y : ℕ). aim_of (items ++ (label_item m ∷ [])) (get_or (set names at m) y 0)
-        ≡ some (get_or (set numbers at (0 + instructions_in items)) y 0))
-        (sym (eqb-true b at q)) stored_at
-    stored b false q z =
-        let f : b ≡ at → ⊥ = eqb-false b at q in
-        let o = get_or-set_other names at b m 0 f in
-        rw (o, get_or-set_other numbers at b (0 + instructions_in items) 0 f)
-        (stays_aim (get_or names b 0) items (label_item m ∷ []) _ (h.stored b (λ w. z (o ∙ w))))
+  zero_at : name_at table at ≡ 0
+  unfolding probe_of
+  zero_at = free_zero (length table) tries (home (length table) m) table m at e
 
-    free : (name b : ℕ) (x : Bool) → eqb m name ≡ x → (name ≡ 0 → ⊥)
-        → probe_from (length names) tries (home (length names) name) (set names at m) name ≡ Free b
-        → definition_of name (items ++ (label_item m ∷ [])) ≡ none
-    free name b true q z r =
-        let w : m ≡ name = eqb-true m name q in
-        here_free at b
-        (sym (probe_put (length names) names at m zero_at room tries (home (length names) m) e)
-        ∙ ap (λ (y : ℕ). probe_from (length names) tries (home (length names) y) (set names at m) y) w ∙ r)
-    free name b false q z r =
-        let d = probe_before (length names) names at m zero_at room tries (home (length names) name) name b z r in
-        more name items (label_item m) (h.free name d.0 z d.1)
-        ∙ other_label (1 + length items) (0 + instructions_in items) name m (eqb-false m name q)
+  stored_at : aim_of longer (name_at after at) ≡ Some (number_at after at)
+  stored_at =
+      subst (λ (x : Entry). aim_of longer x.name ≡ Some x.number) (sym (get_or-set_same table at entry free_entry room))
+      (ap number_of (more m items (label_item m) (h.free m at n e)
+      ∙ this_label (1 + length items) (0 + instructions_in items) m))
+
+  still_stored : (b : ℕ) (x : Bool) → eqb b at ≡ x → (name_at after b ≡ 0 → ⊥)
+      → aim_of longer (name_at after b) ≡ Some (number_at after b)
+  still_stored b true q z =
+      subst (λ (y : ℕ). aim_of longer (name_at after y) ≡ Some (number_at after y)) (sym (eqb-true b at q)) stored_at
+  still_stored b false q z =
+      let o = get_or-set_other table at b entry free_entry (eqb-false b at q) in
+      subst (λ (x : Entry). aim_of longer x.name ≡ Some x.number) (sym o)
+      (stays_aim (name_at table b) items (label_item m ∷ []) _ (h.stored b (λ w. z (ap (λ (e : Entry). e.name) o ∙ w))))
+
+  still_free : (name b : ℕ) (x : Bool) → eqb m name ≡ x → (name ≡ 0 → ⊥)
+      → probe_from (length table) tries (home (length table) name) after name ≡ Free b → definition_of name longer ≡ none
+  unfolding probe_of
+  still_free name b true q z r =
+      let w : m ≡ name = eqb-true m name q in
+      here_free at b
+      (sym (probe_put (length table) table at m (0 + instructions_in items) zero_at room tries (home (length table) m) e)
+      ∙ ap (λ (y : ℕ). probe_from (length table) tries (home (length table) y) after y) w ∙ r)
+  still_free name b false q z r =
+      let d = probe_before (length table) table at m (0 + instructions_in items) zero_at room tries
+      (home (length table) name) name b z r in
+      more name items (label_item m) (h.free name d.0 z d.1)
+      ∙ other_label (1 + length items) (0 + instructions_in items) name m (eqb-false m name q)
+
+  put_holds : Holds after longer
+  unfolding probe_of
+  put_holds =
+      let long = length-set table at entry in
+      record {
+        size = omega (arith, long, h.size);
+        stored = λ b z. still_stored b (eqb b at) refl z;
+        free = λ name b z q. still_free name b (eqb m name) refl z
+            (subst (λ (l : ℕ). probe_from l tries (home l name) after name ≡ Free b) long q);
+      }
 
 -- a definition that is entered keeps it true, and one that isn't too
-pub define_holds : (names numbers : List ℕ) (items : List Item) (m : ℕ) → (m ≡ 0 → ⊥)
-    → Holds names numbers items
-    → Holds (labels_after names m names m) (labels_after names m numbers (0 + instructions_in items))
-    (items ++ (label_item m ∷ []))
-define_holds names numbers items m n h = go (probe_of names m) refl
+pub define_holds : (table : List Entry) (items : List Item) (m : ℕ) → (m ≡ 0 → ⊥) → Holds table items
+    → Holds (table_after table m (0 + instructions_in items)) (items ++ (label_item m ∷ []))
+define_holds table items m n h = go (probe_of table m) refl
   where
-    kept : ((name at : ℕ) → probe_of names name ≡ Free at → m ≡ name → ⊥)
-        → Holds names numbers (items ++ (label_item m ∷ []))
+    kept : ((name at : ℕ) → probe_of table name ≡ Free at → m ≡ name → ⊥) → Holds table (items ++ (label_item m ∷ []))
     kept f =
         record {
           size = h.size;
-          size_numbers = h.size_numbers;
-          stored = λ at z. stays_aim (get_or names at 0) items (label_item m ∷ []) _ (h.stored at z);
+          stored = λ at z. stays_aim (name_at table at) items (label_item m ∷ []) _ (h.stored at z);
           free = λ name at z q. more name items (label_item m) (h.free name at z q)
               ∙ other_label (1 + length items) (0 + instructions_in items) name m (f name at q);
         }
 
-    go : (p : Probed) → probe_of names m ≡ p
-        → Holds (entered p names m) (entered p numbers (0 + instructions_in items)) (items ++ (label_item m ∷ []))
-    go (Here at) e = kept (λ name b q w. here_free at b (sym e ∙ ap (probe_of names) w ∙ q))
-    go (Free at) e = put_holds names numbers items m at n h e
-    go Crowded e = kept (λ name b q w. crowded_free b (sym e ∙ ap (probe_of names) w ∙ q))
+    go : (p : Probed) → probe_of table m ≡ p
+        → Holds (entered p table m (0 + instructions_in items)) (items ++ (label_item m ∷ []))
+    go (Here at) e = kept (λ name b q w. here_free at b (sym e ∙ ap (probe_of table) w ∙ q))
+    go (Free at) e = put_holds table items m at n h e
+    go Crowded e = kept (λ name b q w. crowded_free b (sym e ∙ ap (probe_of table) w ∙ q))
 
-zeros : (k at : ℕ) → ◌≡◌ {A = ℕ} (get_or (replicate k 0) at 0) 0
-zeros zero at = refl
-zeros (suc k) zero = refl
-zeros (suc k) (suc at) = zeros k at
+all_free : (places at : ℕ) → get_or (replicate places free_entry) at free_entry ≡ free_entry
+all_free zero at = refl
+all_free (suc places) zero = refl
+all_free (suc places) (suc at) = all_free places at
 
 -- the empty table of an empty text
-pub empty_holds : (places : ℕ) (names numbers : List ℕ) → 0 < places → names ≡ replicate places 0
-    → length numbers ≡ places → Holds names numbers []
+pub empty_holds : (places : ℕ) → 0 < places → Holds (replicate places free_entry) []
 unfolding definition_from
-empty_holds places names numbers h e g =
-    let long : length names ≡ places = ap length e ∙ length-replicate {A = ℕ} places 0 in
+empty_holds places h =
     record {
-      size = omega (arith, h, long);
-      size_numbers = g ∙ sym long;
-      stored = λ at n. absurd (n (ap (λ (l : List ℕ). get_or l at 0) e ∙ zeros places at));
+      size = omega (arith, h, length-replicate places free_entry);
+      stored = λ at n. absurd (n (ap (λ (e : Entry). e.name) (all_free places at)));
       free = λ name at n q. refl;
     }

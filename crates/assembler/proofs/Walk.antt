@@ -9,22 +9,26 @@ use lib.Dec.{eqb}
 use lib.ListN.{length, take, drop, set, length-append, length-set}
 use lib.Seq.{drop-length}
 use borrow.Author.Tests.{eqb-true}
-use Rattle.labels.specs.Table.{labels_after}
+use Rattle.std.specs.Prelude as Std
+use Rattle.std.specs.Prelude.{Result, Ok, Err, None}
+use Rattle.refusals.specs.declared.check.Check.{Check}
+use Rattle.refusals.specs.declared.check.Check.TheVariants as check
+use Rattle.labels.specs.Table.{table_after}
+use Rattle.labels.specs.declared.table.Entry.{Entry}
 use Rattle.labels.proofs.Probes.{after_length}
 use Rattle.text.specs.Text.{Text, lines_of}
 use Rattle.syntax.specs.Syntax.{Item, branch_row, parse}
-use Rattle.syntax.specs.Parser.{item_as, parsed_at}
+use Rattle.syntax.specs.Parser.{item_as, line_of, parsed_at}
 use Rattle.syntax.specs.declared.parser.Item as Code
-use Rattle.syntax.specs.declared.parser.Parsed.TheVariants as parsed
 use Rattle.assembler.specs.Assemble.{Read, Items, NoLine, reading, read_from, is_label, value_at, instructions_in}
 use Rattle.assembler.specs.Labels.{Holds}
 use Rattle.assembler.specs.Passes.{Known, items_in, items_of, item_in}
-use Rattle.assembler.specs.Reading.{line_no, no_flaw, first_flaw, flaw_after, halfword_noted, aim_noted, NotedAt}
-use Rattle.assembler.specs.Reading.{Unless, Noted, Named, read_as, Entered, count_after, column_after}
-use Rattle.assembler.specs.Reading.{notes_after}
-use Rattle.assembler.specs.declared.reader.Flaw.{Flaw}
+use Rattle.assembler.specs.Assembled.{refusal_at}
+use Rattle.assembler.specs.Reading.{line_no, first_flaw, flaw_after, says_of, note_of, NotedAt, Unless, Noted, Named}
+use Rattle.assembler.specs.Reading.{read_as, Entered, count_after, entries_after, notes_after}
 use Rattle.assembler.specs.declared.reader.Counted.{Counted}
-use Rattle.assembler.specs.declared.reader.Counted.TheVariants as counted
+use Rattle.assembler.specs.declared.reader.Note.{Note}
+use Rattle.assembler.specs.declared.refusal.TextRefusal.{TextRefusal}
 use Rattle.assembler.proofs.Counts.{instructions_append, label_counted, instruction_counted, count_le}
 use Rattle.assembler.proofs.Names.{label_item_is, branch_name}
 use Rattle.assembler.proofs.Noting.{flaw_append, noted_append, noted_stays, noted_here}
@@ -48,60 +52,49 @@ prepend_one xs k x (Items ys) = ap Items (sym (append_assoc xs (x ∷ []) ys))
 prepend_one xs k x (NoLine n) = refl
 
 -- the table after a line that was read
-line_holds : (names numbers : List ℕ) (xs : List Item) (t : Text) (x : Item) (i n : ℕ)
-    → Holds names numbers xs → parse t ≡ some x → i ≡ 0 + instructions_in xs → n ≡ (item_as x).values.a
-    → Holds (column_after x.row names n names n) (column_after x.row names n numbers i) (xs ++ (x ∷ []))
-line_holds names numbers xs t x i n h e q r = go (eqb x.row 0) refl
+line_holds : (table : List Entry) (xs : List Item) (t : Text) (x : Item) (i n : ℕ) → Holds table xs → parse t ≡ some x
+    → i ≡ 0 + instructions_in xs → n ≡ (item_as x).values.a
+    → Holds (entries_after x.row table n i) (xs ++ (x ∷ []))
+line_holds table xs t x i n h e q r = go (eqb x.row 0) refl
   where
-    at_label : x.row ≡ 0
-        → Holds (labels_after names n names n) (labels_after names n numbers i) (xs ++ (x ∷ []))
+    at_label : x.row ≡ 0 → Holds (table_after table n i) (xs ++ (x ∷ []))
     at_label z =
         let l = label_item_is t x e z in
         let m : n ≡ l.0 = r ∙ ap (λ (y : Item). (item_as y).values.a) l.1 in
-        rw (q, m) (subst (λ (y : Item). Holds (labels_after names l.0 names l.0)
-        (labels_after names l.0 numbers (0 + instructions_in xs)) (xs ++ (y ∷ [])))
-        (sym l.1) (define_holds names numbers xs l.0 l.2 h))
+        rw (q, m) (subst (λ (y : Item). Holds (table_after table l.0 (0 + instructions_in xs)) (xs ++ (y ∷ [])))
+        (sym l.1) (define_holds table xs l.0 l.2 h))
 
-    go : (b : Bool) → eqb x.row 0 ≡ b
-        → Holds (cond b (labels_after names n names n) names) (cond b (labels_after names n numbers i) numbers)
-        (xs ++ (x ∷ []))
+    go : (b : Bool) → eqb x.row 0 ≡ b → Holds (cond b (table_after table n i) table) (xs ++ (x ∷ []))
     go true z = at_label (eqb-true x.row 0 z)
-    go false z = instruction_holds names numbers xs x z h
+    go false z = instruction_holds table xs x z h
 
--- the columns that are lent have the lengths that they had
-pub record Sized (names numbers halfwords aims lines names₀ numbers₀ halfwords₀ aims₀ lines₀ : List ℕ) : Type 0 where
-  pub names_long : length names ≡ length names₀
-  pub numbers_long : length numbers ≡ length numbers₀
-  pub halfwords_long : length halfwords ≡ length halfwords₀
-  pub aims_long : length aims ≡ length aims₀
-  pub lines_long : length lines ≡ length lines₀
+-- what is lent has the length that it had
+pub record Sized (table : List Entry) (notes : List Note) (table₀ : List Entry) (notes₀ : List Note) : Type 0 where
+  pub table_long : length table ≡ length table₀
+  pub notes_long : length notes ≡ length notes₀
 
 -- what holds before line k, which starts at a place, with i instructions and a first flaw further up
-pub record Walked (text names numbers halfwords aims lines : List ℕ) (at k i : ℕ) (flaw : Flaw) : Type 0 where
+pub record Walked (text : Text) (table : List Entry) (notes : List Note) (at k i : ℕ) (flaw : Std.Option TextRefusal)
+    : Type 0 where
   pub done : List Item
   pub inside : at ≤ length text
-  pub holds : Holds names numbers done
-  pub size_aims : length aims ≡ length halfwords
-  pub size_lines : length lines ≡ length halfwords
-  pub noted : instructions_in done ≤ length halfwords → Noted halfwords aims lines [] done
+  pub holds : Holds table done
+  pub noted : instructions_in done ≤ length notes → Noted notes [] done
   pub line_is : k ≡ 1 + length done
   pub count_is : i ≡ 0 + instructions_in done
-  pub flaw_is : flaw ≡ flaw_after no_flaw [] done
+  pub flaw_is : flaw ≡ flaw_after None [] done
   pub short : length done ≤ at
   pub above : read_from 1 (lines_of (take at text)) ≡ Items done
   pub answer : read_from 1 (lines_of text) ≡ prepend done (read_from k (lines_of (drop at text)))
 
-pub walk_start : {text names numbers halfwords aims lines : List ℕ} → Holds names numbers []
-    → length aims ≡ length halfwords → length lines ≡ length halfwords
-    → Walked text names numbers halfwords aims lines 0 1 0 no_flaw
+pub walk_start : {text : Text} {table : List Entry} {notes : List Note} → Holds table []
+    → Walked text table notes 0 1 0 None
 unfolding flaw_after read_from lines_of
-walk_start {text} h p q =
+walk_start {text} h =
     record {
       done = [];
       inside = omega arith;
       holds = h;
-      size_aims = p;
-      size_lines = q;
       noted = λ l. tt;
       line_is = refl;
       count_is = refl;
@@ -111,22 +104,21 @@ walk_start {text} h p q =
       answer = prepend_none (read_from 1 (lines_of text));
     }
 
--- what the pass tells, and leaves in the columns
-abbrev pub Told : Text → List ℕ → List ℕ → List ℕ → List ℕ → List ℕ → Counted → Type 0
-Told text names numbers halfwords aims lines r =
-    (r ≡ read_as (read_from 1 (lines_of text)))
-    × Entered names numbers halfwords aims lines (read_from 1 (lines_of text))
+-- what the pass tells, and leaves in the table and the notes
+abbrev pub Told : Text → List Entry → List Note → Result Counted TextRefusal → Type 0
+Told text table notes r =
+    (r ≡ read_as (read_from 1 (lines_of text))) × Entered table notes (read_from 1 (lines_of text))
 
-module _ {text names numbers halfwords aims lines : List ℕ} {at k i : ℕ} {flaw : Flaw}
-    (w : Walked text names numbers halfwords aims lines at k i flaw) where
-  pub walk_none : at < length text → parsed_at at (lines_of (drop at text)) ≡ parsed.NoLine
-      → Told text names numbers halfwords aims lines (counted.NoLine k)
+module _ {text : Text} {table : List Entry} {notes : List Note} {at k i : ℕ} {flaw : Std.Option TextRefusal}
+    (w : Walked text table notes at k i flaw) where
+  pub walk_none : at < length text → parsed_at at (lines_of (drop at text)) ≡ None
+      → Told text table notes (Err (refusal_at check.Line k))
   walk_none h e =
       let all : read_from 1 (lines_of text) ≡ NoLine k =
       w.answer ∙ ap (prepend w.done) (not_read text at h e k) in
       rw all (refl, tt)
 
-  pub walk_end : at ≡ length text → Told text names numbers halfwords aims lines (counted.Instructions i flaw)
+  pub walk_end : at ≡ length text → Told text table notes (Ok (record { n = i; flaw = flaw }))
   unfolding read_from lines_of
   walk_end e =
       let nothing : drop at text ≡ [] = ap (λ (n : ℕ). drop n text) e ∙ drop-length text in
@@ -135,24 +127,19 @@ module _ {text names numbers halfwords aims lines : List ℕ} {at k i : ℕ} {fl
       ∙ ap Items (append-nil w.done) in
       let count : i ≡ instructions_in w.done = omega (arith, w.count_is) in
       rw all (
-        ap₂ counted.Instructions count w.flaw_is,
-        record {
-          holds = w.holds;
-          size_aims = w.size_aims;
-          size_lines = w.size_lines;
-          noted = w.noted;
-        },
+        ap₂ (λ (n : ℕ) (f : Std.Option TextRefusal). Ok (record { n = n; flaw = f })) count w.flaw_is,
+        record { holds = w.holds; noted = w.noted },
       )
 
   -- the text above the line
   above_items : items_of (take at text) ≡ w.done
   above_items = ap items_in w.above
 
-  pub walk_known : Known (take at text) names numbers
+  pub walk_known : Known (take at text) table
   walk_known =
       record {
         all_read = w.above ∙ ap Items (sym above_items);
-        holds = subst (Holds names numbers) (sym above_items) w.holds;
+        holds = subst (Holds table) (sym above_items) w.holds;
       }
 
   pub walk_counted : i ≡ instructions_in (items_of (take at text))
@@ -161,89 +148,69 @@ module _ {text names numbers halfwords aims lines : List ℕ} {at k i : ℕ} {fl
   pub walk_few : i ≤ at
   walk_few = omega (arith, w.count_is, w.short, count_le w.done)
 
--- columns keep their lengths
-column_length : (row : ℕ) (names : List ℕ) (name : ℕ) (column : List ℕ) (v : ℕ)
-    → length (column_after row names name column v) ≡ length column
-column_length row names name column v = go (eqb row 0)
+-- the table and the notes keep their lengths
+entries_length : (row : ℕ) (table : List Entry) (name number : ℕ)
+    → length (entries_after row table name number) ≡ length table
+entries_length row table name number = go (eqb row 0)
   where
-    go : (b : Bool) → length (cond b (labels_after names name column v) column) ≡ length column
-    go true = after_length names name column v
+    go : (b : Bool) → length (cond b (table_after table name number) table) ≡ length table
+    go true = after_length table name number
     go false = refl
 
-notes_length : (row : ℕ) (column : List ℕ) (i v : ℕ) → length (notes_after row column i v) ≡ length column
-notes_length row column i v = go (eqb row 0)
+notes_length : (row : ℕ) (notes : List Note) (i : ℕ) (note : Note) → length (notes_after row notes i note) ≡ length notes
+notes_length row notes i note = go (eqb row 0)
   where
-    go : (b : Bool) → length (cond b column (set column i v)) ≡ length column
+    go : (b : Bool) → length (cond b notes (set notes i note)) ≡ length notes
     go true = refl
-    go false = length-set column i v
+    go false = length-set notes i note
 
 -- how the code holds an item
-as_noted : (x : Item) (i : ℕ) → halfword_noted (item_in (item_as x)) i ≡ halfword_noted x i
-unfolding halfword_noted
-as_noted x i = refl
-
-as_aimed : (x : Item) → aim_noted (item_in (item_as x)) ≡ aim_noted x
-unfolding aim_noted
-as_aimed x = refl
+as_noted : (x : Item) (i k : ℕ) → note_of (item_in (item_as x)) i k ≡ note_of x i k
+unfolding says_of
+as_noted x i k = refl
 
 as_asked : (above : List Item) (x : Item) → line_no above (item_in (item_as x)) ≡ line_no above x
 unfolding line_no
 as_asked above x = refl
 
 -- the notes after a line
-line_noted : (hs us ls : List ℕ) (xs : List Item) (x : Item) (i k : ℕ) → length us ≡ length hs → length ls ≡ length hs
-    → (instructions_in xs ≤ length hs → Noted hs us ls [] xs) → i ≡ instructions_in xs → k ≡ 1 + length xs
-    → (x.row ≡ branch_row → value_at x 1 ≡ 0 → ⊥) → instructions_in (xs ++ (x ∷ [])) ≤ length hs
-    → Noted (notes_after x.row hs i (halfword_noted x i)) (notes_after x.row us i (aim_noted x))
-    (notes_after x.row ls i k) [] (xs ++ (x ∷ []))
-line_noted hs us ls xs x i k p q noted e d nm room = go (is_label x) refl
+line_noted : (notes : List Note) (xs : List Item) (x : Item) (i k : ℕ)
+    → (instructions_in xs ≤ length notes → Noted notes [] xs) → i ≡ instructions_in xs → k ≡ 1 + length xs
+    → (x.row ≡ branch_row → value_at x 1 ≡ 0 → ⊥) → instructions_in (xs ++ (x ∷ [])) ≤ length notes
+    → Noted (notes_after x.row notes i (note_of x i k)) [] (xs ++ (x ∷ []))
+line_noted notes xs x i k noted e d nm room = go (is_label x) refl
   where
-    at : (b : Bool) → is_label x ≡ b → instructions_in xs ≤ length hs
+    at : (b : Bool) → is_label x ≡ b → instructions_in xs ≤ length notes
     at true l = omega (arith, room, label_counted xs x l)
     at false l = omega (arith, room, instruction_counted xs x l)
 
-    go : (b : Bool) → is_label x ≡ b
-        → Noted (cond b hs (set hs i (halfword_noted x i))) (cond b us (set us i (aim_noted x)))
-        (cond b ls (set ls i k)) [] (xs ++ (x ∷ []))
+    go : (b : Bool) → is_label x ≡ b → Noted (cond b notes (set notes i (note_of x i k))) [] (xs ++ (x ∷ []))
     go true l =
-        noted_append hs us ls [] xs x (noted (at true l))
-        (subst (λ (b : Bool). Unless b (NotedAt hs us ls x (instructions_in xs) (1 + length xs))) (sym l) tt)
+        noted_append notes [] xs x (noted (at true l))
+        (subst (λ (b : Bool). Unless b (NotedAt notes x (instructions_in xs) (1 + length xs))) (sym l) tt)
     go false l =
-        let here : NotedAt (set hs i (halfword_noted x i)) (set us i (aim_noted x)) (set ls i k) x i k =
-        noted_here hs us ls x i k (omega (arith, room, e, instruction_counted xs x l)) p q nm in
-        let put = NotedAt (set hs i (halfword_noted x i)) (set us i (aim_noted x)) (set ls i k) x in
-        noted_append (set hs i (halfword_noted x i)) (set us i (aim_noted x)) (set ls i k) [] xs x
-        (noted_stays hs us ls i (halfword_noted x i) (aim_noted x) k [] xs (omega (arith, e)) (noted (at false l)))
+        let put = NotedAt (set notes i (note_of x i k)) x in
+        let here : put i k = noted_here notes x i k (omega (arith, room, e, instruction_counted xs x l)) nm in
+        noted_append (set notes i (note_of x i k)) [] xs x
+        (noted_stays notes i (note_of x i k) [] xs (omega (arith, e)) (noted (at false l)))
         (subst (λ (b : Bool). Unless b (put (instructions_in xs) (1 + length xs))) (sym l)
         (subst (λ (j : ℕ). put j (1 + length xs)) e (subst (λ (j : ℕ). put i j) d here)))
 
-module _ {text names numbers halfwords aims lines : List ℕ} {at k i : ℕ} {flaw : Flaw}
-    (w : Walked text names numbers halfwords aims lines at k i flaw) where
+module _ {text : Text} {table : List Entry} {notes : List Note} {at k i : ℕ} {flaw : Std.Option TextRefusal}
+    (w : Walked text table notes at k i flaw) where
   -- what the code makes of a line
-  abbrev pub Enters : Code.Item → ℕ → List ℕ → List ℕ → List ℕ → List ℕ → List ℕ → Type 0
-  Enters y number names' numbers' halfwords' aims' lines' =
-      (number ≡ line_no (items_of (take at text)) (item_in y))
-      × (names' ≡ column_after y.row names y.values.a names y.values.a)
-      × (numbers' ≡ column_after y.row names y.values.a numbers i)
-      × (halfwords' ≡ notes_after y.row halfwords i (halfword_noted (item_in y) i))
-      × (aims' ≡ notes_after y.row aims i (aim_noted (item_in y)))
-      × (lines' ≡ notes_after y.row lines i k)
+  abbrev pub Enters : Code.Item → Std.Option Check → List Entry → List Note → Type 0
+  Enters y failed table' notes' =
+      (failed ≡ line_no (items_of (take at text)) (item_in y))
+      × (table' ≡ entries_after y.row table y.values.a i)
+      × (notes' ≡ notes_after y.row notes i (note_of (item_in y) i k))
 
-  pub sized_on : (y : Code.Item) {next : ℕ} → parsed_at at (lines_of (drop at text)) ≡ parsed.Line y next
-      → {number : ℕ} {names' numbers' halfwords' aims' lines' : List ℕ}
-      {names₀ numbers₀ halfwords₀ aims₀ lines₀ : List ℕ} → Enters y number names' numbers' halfwords' aims' lines'
-      → Sized names numbers halfwords aims lines names₀ numbers₀ halfwords₀ aims₀ lines₀
-      → Sized names' numbers' halfwords' aims' lines' names₀ numbers₀ halfwords₀ aims₀ lines₀
-  sized_on y q (number_is, names-are, numbers-are, halfwords-are, aims-are, lines_are) s =
+  pub sized_on : (y : Code.Item) {failed : Std.Option Check} {table' table₀ : List Entry} {notes' notes₀ : List Note}
+      → Enters y failed table' notes' → Sized table notes table₀ notes₀ → Sized table' notes' table₀ notes₀
+  sized_on y (asked, table_is, notes_are) s =
       record {
-        names_long = ap length names-are
-            ∙ column_length y.row names y.values.a names y.values.a ∙ s.names_long;
-        numbers_long = ap length numbers-are
-            ∙ column_length y.row names y.values.a numbers i ∙ s.numbers_long;
-        halfwords_long = ap length halfwords-are
-            ∙ notes_length y.row halfwords i (halfword_noted (item_in y) i) ∙ s.halfwords_long;
-        aims_long = ap length aims-are ∙ notes_length y.row aims i (aim_noted (item_in y)) ∙ s.aims_long;
-        lines_long = ap length lines_are ∙ notes_length y.row lines i k ∙ s.lines_long;
+        table_long = ap length table_is ∙ entries_length y.row table y.values.a i ∙ s.table_long;
+        notes_long = ap length notes_are ∙ notes_length y.row notes i (note_of (item_in y) i k) ∙ s.notes_long;
       }
 
   count_after_is : (xs : List Item) (x : Item) (j : ℕ) → j ≡ 0 + instructions_in xs
@@ -254,44 +221,35 @@ module _ {text names numbers halfwords aims lines : List ℕ} {at k i : ℕ} {fl
       go true = omega arith
       go false = omega arith
 
-  pub walk_on : (y : Code.Item) {next : ℕ} → parsed_at at (lines_of (drop at text)) ≡ parsed.Line y next
-      → {number i' : ℕ} {flaw' : Flaw} {names' numbers' halfwords' aims' lines' : List ℕ}
-      → Enters y number names' numbers' halfwords' aims' lines' → flaw' ≡ first_flaw flaw number k
-      → i' ≡ count_after y.row i
-      → Walked text names' numbers' halfwords' aims' lines' next (k + 1) i' flaw'
-  walk_on y {next} q {number} {i'} {flaw'} {names'} {numbers'} {halfwords'} {aims'} {lines'}
-      (asked, names-are, numbers-are, halfwords-are, aims-are, lines_are) first count =
+  pub walk_on : (y : Code.Item) {next : ℕ} → parsed_at at (lines_of (drop at text)) ≡ line_of y next
+      → {failed : Std.Option Check} {i' : ℕ} {flaw' : Std.Option TextRefusal} {table' : List Entry} {notes' : List Note}
+      → Enters y failed table' notes' → flaw' ≡ first_flaw flaw failed k → i' ≡ count_after y.row i
+      → Walked text table' notes' next (k + 1) i' flaw'
+  walk_on y {next} q {failed} {i'} {flaw'} {table'} {notes'} (asked, table_is, notes_are) first count =
       rw (
-        names-are,
-        numbers-are,
-        halfwords-are,
-        aims-are,
-        lines_are,
+        table_is,
+        notes_are,
         first,
         count,
         asked,
         above_items w,
         l.item_is,
-        as_noted l.item i,
-        as_aimed l.item,
+        as_noted l.item i k,
         as_asked w.done l.item,
       ) (
       record {
         done = w.done ++ (l.item ∷ []);
         inside = omega (arith, next_within text at w.inside l.written l.others l.here, l.next_is);
-        holds = line_holds names numbers w.done l.written l.item i (item_as l.item).values.a
-            w.holds l.is_parsed_as w.count_is refl;
-        size_aims = notes_length l.item.row aims i (aim_noted l.item) ∙ w.size_aims
-            ∙ sym (notes_length l.item.row halfwords i (halfword_noted l.item i));
-        size_lines = notes_length l.item.row lines i k ∙ w.size_lines
-            ∙ sym (notes_length l.item.row halfwords i (halfword_noted l.item i));
-        noted = λ room. line_noted halfwords aims lines w.done l.item i k w.size_aims w.size_lines
-            w.noted (omega (arith, w.count_is)) w.line_is (branch_name l.written l.item l.is_parsed_as)
-            (omega (arith, room, notes_length l.item.row halfwords i (halfword_noted l.item i)));
+        holds = line_holds table w.done l.written l.item i (item_as l.item).values.a w.holds l.is_parsed_as w.count_is
+            refl;
+        noted = λ room. line_noted notes w.done l.item i k w.noted (omega (arith, w.count_is)) w.line_is
+            (branch_name l.written l.item l.is_parsed_as)
+            (omega (arith, room, notes_length l.item.row notes i (note_of l.item i k)));
         line_is = omega (arith, w.line_is, length-append w.done (l.item ∷ []));
         count_is = count_after_is w.done l.item i w.count_is;
-        flaw_is = ap₂ (λ (f : Flaw) (j : ℕ). first_flaw f (line_no w.done l.item) j) w.flaw_is w.line_is
-            ∙ sym (flaw_append no_flaw [] w.done l.item);
+        flaw_is = ap₂ (λ (f : Std.Option TextRefusal) (j : ℕ). first_flaw f (line_no w.done l.item) j) w.flaw_is
+            w.line_is
+            ∙ sym (flaw_append None [] w.done l.item);
         short = omega (arith, w.short, l.next_is, length-append w.done (l.item ∷ []));
         above = ap (λ (n : ℕ). read_from 1 (lines_of (take n text))) l.next_is
             ∙ above_read text at w.inside l.written l.others l.here w.done l.item w.above

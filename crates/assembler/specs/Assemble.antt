@@ -9,7 +9,10 @@ use Rattle.isa.specs.Encode.{encode_of}
 use Rattle.image.specs.Format.{most_code}
 use Rattle.text.specs.Text.{Text, Lines, remainder, line, lines_of}
 use Rattle.syntax.specs.Syntax.{Item, parse, given, label_row, branch_row}
-use Rattle.std.specs.Prelude.{Result, Ok, Err}
+use Rattle.std.specs.Prelude.{Result}
+use Rattle.std.specs.Result.{result_unwrap_or}
+use Rattle.refusals.specs.declared.check.Check.{Check}
+use Rattle.refusals.specs.declared.check.Check.TheVariants as check
 use Rattle.refusals.specs.declared.refusal.Refusal.{Refusal}
 
 -- 21: what the lines say from line k on, or the number of the first that is none. What has no line feed is no line
@@ -99,25 +102,25 @@ rows a b c i j =
 abbrev pub instruction_of : Item → ℕ → ℕ → Option Instruction
 instruction_of x i j = get_or (rows (value_at x 0) (value_at x 1) (value_at x 2) i j) x.row none
 
--- what line k says: nothing to put into the code, an instruction, or a no with its number
+-- what line k says: nothing to put into the code, an instruction, or a no
 pub data Said : Type 0 where
   Nothing : Said
   Instructs : Instruction → Said
-  Fault : ℕ → Said
+  Fault : Check → Said
 
 -- 22: a label that is defined further up
 abbrev pub label_said : ℕ → Option Definition → Said
 label_said k none = Nothing
-label_said k (some d) = cond (eqb d.line k) Nothing (Fault 22)
+label_said k (some d) = cond (eqb d.line k) Nothing (Fault check.Label)
 
 -- 23: a value that doesn't fit
 abbrev pub field_said : Option Instruction → Said
-field_said none = Fault 23
+field_said none = Fault check.Value
 field_said (some i) = Instructs i
 
 -- 22: a branch to a name that isn't defined; 23: one that is too far
 abbrev pub branch_said : Item → ℕ → Option Definition → Said
-branch_said x i none = Fault 22
+branch_said x i none = Fault check.Label
 branch_said x i (some d) = field_said (instruction_of x i d.number)
 
 unfoldable pub said_at : List Item → ℕ → ℕ → Item → Said
@@ -126,16 +129,16 @@ said_at items k i x =
     let ofBranch = branch_said x i (definition_of (value_at x 1) items) in
     cond (is_label x) ofLabel (cond (eqb x.row branch_row) ofBranch (field_said (instruction_of x i 0)))
 
--- the instructions of the items from line k on, or the first no: its number and line
+-- the instructions of the items from line k on, or the first no: its check and line
 pub data Checked : Type 0 where
   Code : List Instruction → Checked
-  Fails : ℕ → ℕ → Checked
+  Fails : Check → ℕ → Checked
 
 abbrev pub saying : ℕ → Said → Checked → Checked
 saying k Nothing later = later
-saying k (Fault number) later = Fails number k
+saying k (Fault c) later = Fails c k
 saying k (Instructs i) (Code is) = Code (i ∷ is)
-saying k (Instructs i) (Fails number n) = Fails number n
+saying k (Instructs i) (Fails c n) = Fails c n
 
 -- `items` are those of the whole text
 abbrev pub next_number : Item → ℕ → ℕ
@@ -147,27 +150,26 @@ check_from items k i (x ∷ xs) = saying k (said_at items k i x) (check_from ite
 
 -- the halfwords of instructions
 abbrev pub halfword_in : Result ℕ Refusal → ℕ
-halfword_in (Ok h) = h
-halfword_in (Err r) = 0
+halfword_in e = result_unwrap_or e 0
 
 abbrev pub halfwords_of : List Instruction → List ℕ
 halfwords_of [] = []
 halfwords_of (i ∷ is) = halfword_in (encode_of i) ∷ halfwords_of is
 
--- the code, or a refusal: its number, and its line or 0
+-- the code, or a refusal: the check that fails, and its line or 0
 pub data Assembly : Type 0 where
   Assembles : List ℕ → Assembly
-  Refuses : ℕ → ℕ → Assembly
+  Refuses : Check → ℕ → Assembly
 
 -- 16: the output has room for the code
 abbrev pub with_room : ℕ → Checked → Assembly
-with_room size (Fails number k) = Refuses number k
-with_room size (Code is) = cond (leb (length is) size) (Assembles (halfwords_of is)) (Refuses 16 0)
+with_room size (Fails c k) = Refuses c k
+with_room size (Code is) = cond (leb (length is) size) (Assembles (halfwords_of is)) (Refuses check.OutputLength 0)
 
 abbrev pub assemble_read : ℕ → Read → Assembly
-assemble_read size (NoLine k) = Refuses 21 k
+assemble_read size (NoLine k) = Refuses check.Line k
 assemble_read size (Items xs) = cond (check15 (instructions_in xs)) (with_room size (check_from xs 1 0 xs))
-    (Refuses 15 0)
+    (Refuses check.CodeLength 0)
 
 -- of a text, into an output of so many halfwords
 unfoldable pub assemble_of : Text → ℕ → Assembly

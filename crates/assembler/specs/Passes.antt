@@ -1,26 +1,28 @@
 -- How the code of the passes holds what the definitions speak of.
-use Rattle.std.specs.Prelude.{Bool, cond, not, ◌&&◌, List, [], ◌∷◌, ◌≡◌, ℕ, zero, suc, ◌≤◌, ◌%◌, eqb, ltb, length}
+use Rattle.std.specs.Prelude as Std
+use Rattle.std.specs.Prelude.{Result, Ok, Err, Some, None, ⊤, cond, List, [], ◌∷◌, ◌≡◌, ℕ, zero, suc, ◌≤◌, ltb, length}
 use Rattle.std.specs.Prelude.{get_or, set}
 use Rattle.std.proofs.Math.Option.{Option, none, some}
+use Rattle.refusals.specs.declared.check.Check.{Check}
+use Rattle.refusals.specs.declared.check.Check.TheVariants as check
 use Rattle.isa.specs.declared.instruction.Instruction.{Instruction}
-use Rattle.isa.specs.declared.instruction.Instruction.TheVariants.{Branch}
+use Rattle.isa.specs.declared.instruction.Instruction.TheVariants as instruction
 use Rattle.isa.specs.Encode.{encode_of}
+use Rattle.labels.specs.declared.table.Entry.{Entry}
 use Rattle.text.specs.Text.{Text, lines_of}
 use Rattle.syntax.specs.Syntax as Syntax
 use Rattle.syntax.specs.Syntax.{given}
 use Rattle.syntax.specs.declared.parser.Item.{Item}
-use Rattle.assembler.specs.Assemble.{Read, Items, NoLine, read_from, Said, Nothing, Instructs, Fault}
-use Rattle.assembler.specs.Assemble.{instructions_in, in_reach, branch_byte}
-use Rattle.assembler.specs.Assemble.{Checked, Code, Fails, field_said, halfword_in, halfwords_of}
+use Rattle.assembler.specs.Assemble.{Read, Items, NoLine, read_from, instructions_in, in_reach, branch_byte}
+use Rattle.assembler.specs.Assemble.{Checked, Code, Fails, halfword_in, halfwords_of}
+use Rattle.assembler.specs.Assembled.{refusal_at}
 use Rattle.assembler.specs.Labels.{aim_of, Holds}
-use Rattle.assembler.specs.Reading.{Noted, no_flaw, flaw_after}
-use Rattle.assembler.specs.declared.reader.Flaw.{Flaw}
-use Rattle.assembler.specs.declared.definitions.Found.{Found}
-use Rattle.assembler.specs.declared.definitions.Found.TheVariants as found
-use Rattle.assembler.specs.declared.fields.Meaning.{Meaning}
-use Rattle.assembler.specs.declared.fields.Meaning.TheVariants as meaning
-use Rattle.assembler.specs.declared.translator.Translated.{Translated}
-use Rattle.assembler.specs.declared.translator.Translated.TheVariants as translated
+use Rattle.assembler.specs.Reading.{Noted, blank, flaw_after}
+use Rattle.assembler.specs.declared.reader.Counted.{Counted}
+use Rattle.assembler.specs.declared.reader.Note.{Note}
+use Rattle.assembler.specs.declared.reader.Says.{Says}
+use Rattle.assembler.specs.declared.reader.Says.TheVariants.{Halfword, Branch}
+use Rattle.assembler.specs.declared.refusal.TextRefusal.{TextRefusal}
 
 -- the items of a text that was read
 abbrev pub items_in : Read → List Syntax.Item
@@ -35,88 +37,89 @@ abbrev pub AllRead : Text → Type 0
 AllRead text = read_from 1 (lines_of text) ≡ Items (items_of text)
 
 -- with the table of its labels
-pub record Known (text names numbers : List ℕ) : Type 0 where
+pub record Known (text : Text) (table : List Entry) : Type 0 where
   pub all_read : AllRead text
-  pub holds : Holds names numbers (items_of text)
+  pub holds : Holds table (items_of text)
 
--- and with the notes of its n instructions
-pub record Ready (text names numbers halfwords aims lines : List ℕ) (n : ℕ) (flaw : Flaw) : Type 0 where
-  pub known : Known text names numbers
-  pub size_aims : length aims ≡ length halfwords
-  pub size_lines : length lines ≡ length halfwords
-  pub room : n ≤ length halfwords
-  pub noted : Noted halfwords aims lines [] (items_of text)
-  pub count : n ≡ instructions_in (items_of text)
-  pub flaw_is : flaw ≡ flaw_after no_flaw [] (items_of text)
+-- and with the notes of its instructions
+pub record Ready (text : Text) (table : List Entry) (notes : List Note) (counted : Counted) : Type 0 where
+  pub known : Known text table
+  pub room : counted.n ≤ length notes
+  pub noted : Noted notes [] (items_of text)
+  pub count : counted.n ≡ instructions_in (items_of text)
+  pub flaw_is : counted.flaw ≡ flaw_after None [] (items_of text)
+
+-- the same of a text whose instructions need not all be noted
+pub record Unfolded (text : Text) (table : List Entry) (notes : List Note) (counted : Counted) : Type 0 where
+  pub known : Known text table
+  pub noted : counted.n ≤ length notes → Noted notes [] (items_of text)
+  pub count : counted.n ≡ instructions_in (items_of text)
+  pub flaw_is : counted.flaw ≡ flaw_after None [] (items_of text)
 
 -- no row has more than three values
 abbrev pub item_in : Item → Syntax.Item
 item_in x = record { row = x.row; values = x.values.a ∷ x.values.b ∷ x.values.c ∷ [] }
 
-abbrev pub aim_in : Found → Option ℕ
-aim_in (found.At number) = some number
-aim_in found.Nowhere = none
+-- the halfword of a line's instruction, if its values fit
+unfoldable pub field_meaning : Option Instruction → Result ℕ Check
+field_meaning none = Err check.Value
+field_meaning (some i) = Ok (halfword_in (encode_of i))
 
-abbrev pub said_as : Said → Meaning
-said_as Nothing = meaning.Nothing
-said_as (Instructs i) = meaning.Halfword (halfword_in (encode_of i))
-said_as (Fault number) = meaning.Fault number
+-- of a branch with a condition, instruction i, whose name is that of instruction j
+abbrev pub aimed_meaning : ℕ → ℕ → Std.Option ℕ → Result ℕ Check
+aimed_meaning condition i None = Err check.Label
+aimed_meaning condition i (Some j) =
+    field_meaning (given (in_reach i j) (instruction.Branch condition (branch_byte i j)))
 
--- what a line of an instruction says, if its values fit
-unfoldable pub field_meaning : Option Instruction → Meaning
-field_meaning o = said_as (field_said o)
+-- of instruction i, by its notes; 0 is no name
+abbrev pub noted_meaning : List Syntax.Item → ℕ → Says → Result ℕ Check
+noted_meaning items i (Halfword h) = Ok h
+noted_meaning items i (Branch condition name) = aimed_meaning condition i (aim_of items name)
 
--- what a branch with a condition says, instruction i, whose name is that of instruction j
-abbrev pub aimed_meaning : ℕ → ℕ → Option ℕ → Meaning
-aimed_meaning condition i none = meaning.Fault 22
-aimed_meaning condition i (some j) = field_meaning (given (in_reach i j) (Branch condition (branch_byte i j)))
-
--- what instruction i says, by its notes
-unfoldable pub noted_meaning : List Syntax.Item → ℕ → ℕ → ℕ → Meaning
-noted_meaning items i halfword aim =
-    cond (eqb aim 0) (meaning.Halfword halfword) (aimed_meaning (halfword % 256) i (aim_of items aim))
+abbrev pub Aimed : Says → Type 0
+Aimed (Halfword h) = Unit {0}
+Aimed (Branch condition name) = name ≡ 0 → ⊥
 
 -- what the notes come to: the halfwords, or the first no
 pub data Made : Type 0 where
   Codes : List ℕ → Made
-  Breaks : ℕ → ℕ → Made
+  Breaks : Check → ℕ → Made
 
 abbrev pub made_of : Checked → Made
 made_of (Code is) = Codes (halfwords_of is)
-made_of (Fails number line) = Breaks number line
+made_of (Fails c line) = Breaks c line
 
-abbrev pub making : ℕ → Meaning → Made → Made
-making line meaning.Nothing later = later
-making line (meaning.Halfword h) (Codes hs) = Codes (h ∷ hs)
-making line (meaning.Halfword h) (Breaks number k) = Breaks number k
-making line (meaning.Fault number) later = Breaks number line
+abbrev pub making : ℕ → Result ℕ Check → Made → Made
+making line (Ok h) (Codes hs) = Codes (h ∷ hs)
+making line (Ok h) (Breaks c k) = Breaks c k
+making line (Err c) later = Breaks c line
 
 -- a flaw further up, and one at the end
-abbrev pub is_above : Flaw → ℕ → Bool
-is_above flaw line = not (eqb flaw.number 0) && ltb flaw.line line
+abbrev pub above_as : Std.Option TextRefusal → ℕ → Result ⊤ TextRefusal
+above_as None line = Ok tt
+above_as (Some f) line = cond (ltb f.line line) (Err f) (Ok tt)
 
-abbrev pub made_at_end : Flaw → Made
-made_at_end flaw = cond (eqb flaw.number 0) (Codes []) (Breaks flaw.number flaw.line)
+abbrev pub unless_flawed : Result ⊤ TextRefusal → Made → Made
+unless_flawed (Ok t) made = made
+unless_flawed (Err f) made = Breaks f.check f.line
+
+abbrev pub made_at_end : Std.Option TextRefusal → Made
+made_at_end None = Codes []
+made_at_end (Some f) = Breaks f.check f.line
 
 -- of n instructions from instruction i on
-unfoldable pub make_from : List Syntax.Item → Flaw → List ℕ → List ℕ → List ℕ → ℕ → ℕ → Made
-make_from items flaw halfwords aims lines zero i = made_at_end flaw
-make_from items flaw halfwords aims lines (suc n) i =
-    let later = make_from items flaw halfwords aims lines n (suc i) in
-    let line = get_or lines i 0 in
-    cond (is_above flaw line) (Breaks flaw.number flaw.line)
-    (making line (noted_meaning items i (get_or halfwords i 0) (get_or aims i 0)) later)
+unfoldable pub make_from : List Syntax.Item → Std.Option TextRefusal → List Note → ℕ → ℕ → Made
+make_from items flaw notes zero i = made_at_end flaw
+make_from items flaw notes (suc n) i =
+    let later = make_from items flaw notes n (suc i) in
+    let note = get_or notes i blank in
+    unless_flawed (above_as flaw note.line) (making note.line (noted_meaning items i note.says) later)
 
--- the output after an instruction that is good; what lies past the output's end is not written
-abbrev pub out_after : Meaning → ℕ → List ℕ → List ℕ
-out_after meaning.Nothing i out = out
-out_after (meaning.Halfword h) i out = set out i h
-out_after (meaning.Fault number) i out = out
-
--- what a pass answers, and what it leaves in the output from halfword i on
-abbrev pub translated_as : Made → Translated
-translated_as (Codes hs) = translated.Done
-translated_as (Breaks number k) = translated.Fault number k
+-- what a pass answers, and what it leaves in the output from halfword i on; what lies past the output's end is not
+-- written
+abbrev pub translated_as : Made → Result ⊤ TextRefusal
+translated_as (Codes hs) = Ok tt
+translated_as (Breaks c k) = Err (refusal_at c k)
 
 unfoldable pub put_from : ℕ → List ℕ → List ℕ → List ℕ
 put_from i [] out = out
@@ -124,13 +127,4 @@ put_from i (h ∷ hs) out = put_from (suc i) hs (set out i h)
 
 abbrev pub Written : Made → ℕ → List ℕ → List ℕ → Type 0
 Written (Codes hs) i out after = after ≡ put_from i hs out
-Written (Breaks number k) i out after = Unit {0}
-
--- the same of a text whose instructions need not all be noted
-pub record Unfolded (text names numbers halfwords aims lines : List ℕ) (n : ℕ) (flaw : Flaw) : Type 0 where
-  pub known : Known text names numbers
-  pub size_aims : length aims ≡ length halfwords
-  pub size_lines : length lines ≡ length halfwords
-  pub noted : n ≤ length halfwords → Noted halfwords aims lines [] (items_of text)
-  pub count : n ≡ instructions_in (items_of text)
-  pub flaw_is : flaw ≡ flaw_after no_flaw [] (items_of text)
+Written (Breaks c k) i out after = Unit {0}

@@ -7,16 +7,8 @@ ghost use Rattle.assembler.specs.Assemble.{instruction_of, in_fours, in_reach, b
 ghost use Rattle.assembler.specs.Passes.{item_in, field_meaning};
 
 use isa::{Instruction, encode};
-use syntax::Item;
-
-// What a line says: nothing to put into the code, a halfword, or the number of
-// a check that it fails.
-#[derive(Clone, Copy)]
-pub enum Meaning {
-    Nothing,
-    Halfword(u16),
-    Fault(u8),
-}
+use refusals::Check;
+use syntax::{Item, Values};
 
 // A register's number, or a field's value, as a byte. No line has a register
 // above 15, and to the encoder 255 is none either; a field's value is tested
@@ -24,41 +16,38 @@ pub enum Meaning {
 pub(crate) fn narrow(v: u64) -> u8
     ensures { result ≡ min v 255 }
 {
-    if v < 255 { v as u8 } else { 255 }
+    v.min(255) as u8
 }
 
-fn encoded(i: Instruction) -> Meaning
+// An instruction's halfword, and 0 for one that has none: no line says such a one.
+fn encoded(i: Instruction) -> Result<u16, Check>
     ensures { result ≡ field_meaning (some i) }
 {
-    let halfword = encode(i);
-    match halfword {
-        Ok(h) => Meaning::Halfword(h),
-        Err(_) => Meaning::Halfword(0),
-    }
+    Ok(encode(i).unwrap_or(0))
 }
 
 // An instruction with a value of at most so much.
-fn limited(v: u64, most: u64, i: Instruction) -> Meaning
+fn limited(v: u64, most: u64, i: Instruction) -> Result<u16, Check>
     ensures { result ≡ field_meaning (given (leb v most) i) }
 {
     if v <= most {
         return encoded(i);
     }
-    Meaning::Fault(23)
+    Err(Check::Value)
 }
 
 // An instruction with an offset that counts in fours.
-fn in_fours(v: u64, most: u64, i: Instruction) -> Meaning
+fn in_fours(v: u64, most: u64, i: Instruction) -> Result<u16, Check>
     ensures { result ≡ field_meaning (given (in_fours most v) i) }
 {
     if v % 4 == 0 {
         return limited(v, most, i);
     }
-    Meaning::Fault(23)
+    Err(Check::Value)
 }
 
 // A branch of instruction `i` to instruction `j`.
-pub(crate) fn branching(cond: u8, i: u64, j: u64) -> Meaning
+pub(crate) fn branching(cond: u8, i: u64, j: u64) -> Result<u16, Check>
     ensures { result ≡ field_meaning (given (in_reach i j) (Instruction.Branch cond (branch_byte i j))) }
 {
     if i <= j {
@@ -79,26 +68,25 @@ pub(crate) fn branching(cond: u8, i: u64, j: u64) -> Meaning
             offset: (256 - down) as u8,
         });
     }
-    Meaning::Fault(23)
+    Err(Check::Value)
 }
 
 // The halfword of instruction `i`, which branches to instruction `j` if it is a
 // branch.
-pub(crate) fn field_of(item: Item, i: u64, j: u64) -> Meaning
+pub(crate) fn field_of(item: Item, i: u64, j: u64) -> Result<u16, Check>
     ensures { result ≡ field_meaning (instruction_of (item_in item) i j) }
 {
-    let row = item.row;
-    let values = item.values;
-    let a = values.a;
-    let b = values.b;
-    let c = values.c;
+    let Item {
+        row,
+        values: Values { a, b, c },
+    } = item;
     let rd = narrow(a);
     let rs = narrow(b);
     let byte = narrow(c);
     let word = narrow(c / 4);
     let imm = narrow(b / 4);
     match row {
-        0 => Meaning::Fault(23),
+        0 => Err(Check::Value),
         1 => limited(b, 255, Instruction::MovImm { rd, imm: rs }),
         2 => limited(b, 255, Instruction::CmpImm { rd, imm: rs }),
         3 => encoded(Instruction::And { rs, rd }),
@@ -149,6 +137,6 @@ pub(crate) fn field_of(item: Item, i: u64, j: u64) -> Meaning
         16 => in_fours(b, 1020, Instruction::AddPc { rd, imm }),
         17 => branching(rd, i, j),
         18 => limited(a, 255, Instruction::Halt { note: rd }),
-        _ => Meaning::Fault(23),
+        _ => Err(Check::Value),
     }
 }

@@ -6,6 +6,8 @@ mod columns;
 mod definitions;
 mod fields;
 mod reader;
+mod refusal;
 mod translator;
 
-pub use assembler::{Assembled, assemble};
+pub use assembler::assemble;
+pub use refusal::TextRefusal;

@@ -1,194 +1,148 @@
 // The pass over a text: check 21, the number of instructions, the table of labels,
 // and notes of each instruction, so that no line is read twice.
-ghost use Rattle.std.specs.Prelude.{[], ◌≡◌, length, set};
-ghost use Rattle.labels.specs.Table.{labels_after};
+ghost use Rattle.std.specs.Prelude.{[], ◌≡◌, set};
+ghost use Rattle.labels.specs.Table.{table_after};
 ghost use Rattle.text.specs.Text.{lines_of};
 ghost use Rattle.assembler.specs.Assemble.{read_from, instructions_in};
 ghost use Rattle.assembler.specs.Labels.{Holds, aim_of};
-ghost use Rattle.assembler.specs.Passes.{Known, items_of, item_in, aim_in};
-ghost use Rattle.assembler.specs.Reading.{label_no, instruction_no, line_no, first_flaw, halfword_noted, aim_noted};
-ghost use Rattle.assembler.specs.Reading.{meant_halfword, meant_no, Named};
-ghost use Rattle.assembler.specs.Reading.{read_as, Entered, column_after, notes_after};
+ghost use Rattle.assembler.specs.Passes.{Known, items_of, item_in};
+ghost use Rattle.assembler.specs.Reading.{label_no, instruction_no, line_no, first_flaw, note_of, Named};
+ghost use Rattle.assembler.specs.Reading.{read_as, Entered, entries_after, notes_after};
 
-use super::columns::{put, put_wide};
-use super::definitions::{Found, next_number, scan};
-use super::fields::{Meaning, field_of, narrow};
-use labels::{Probed, define};
-use syntax::{Item, Parsed, parse};
+use super::columns::put;
+use super::definitions::{next_number, scan};
+use super::fields::{field_of, narrow};
+use super::refusal::TextRefusal;
+use labels::{Entry, Probed, define};
+use refusals::Check;
+use syntax::{Item, Line, parse};
 
-// The first line that fails 22 or 23 whatever branches do; number 0 for none.
+// What is noted of an instruction: its halfword, or of a branch, whose label may
+// stand further down, its condition and the name.
 #[derive(Clone, Copy)]
-pub struct Flaw {
-    pub number: u8,
+pub enum Says {
+    Halfword(u16),
+    Branch { cond: u8, name: u64 },
+}
+
+// That, and the instruction's line.
+#[derive(Clone, Copy)]
+pub struct Note {
+    pub says: Says,
     pub line: u64,
 }
 
-// How many instructions a text has and its first flaw, or the number of its first
-// line that is none.
-#[derive(Drop)]
-pub enum Counted {
-    Instructions { n: u64, flaw: Flaw },
-    NoLine(u64),
+pub(crate) const BLANK: Note = Note {
+    says: Says::Halfword(0),
+    line: 0,
+};
+
+// How many instructions a text has, and the first line that fails 22 or 23 whatever
+// branches do.
+#[derive(Clone, Copy)]
+pub struct Counted {
+    pub n: u64,
+    pub flaw: Option<TextRefusal>,
 }
 
-fn first_flaw(flaw: Flaw, number: u8, line: u64) -> Flaw
-    ensures { result ≡ first_flaw flaw number line }
+// The first flaw, where line `line` fails a check or none.
+fn first_flaw(flaw: Option<TextRefusal>, failed: Option<Check>, line: u64) -> Option<TextRefusal>
+    ensures { result ≡ first_flaw flaw failed line }
 {
-    if flaw.number == 0 {
-        return Flaw { number, line };
-    }
-    flaw
+    let Some(check) = failed else {
+        return flaw;
+    };
+    flaw.or(Some(TextRefusal { check, line }))
 }
 
-// Check 22 of a label whose name was found above, or not.
-fn label_no(found: Found) -> u8
-    ensures { result ≡ label_no (aim_in found) }
-{
-    match found {
-        Found::At(_) => 22,
-        Found::Nowhere => 0,
-    }
-}
-
-// Enters a label's definition, and answers check 22: its number, or 0 if nothing
-// above it defines the name.
-fn enter_label(above: &[u8], names: &mut [u64], numbers: &mut [u64], name: u64, i: u64) -> u8
-    requires known { Known above.now names.old numbers.old }
+// Enters a label's definition, and answers check 22, if something above it defines
+// the name.
+fn enter_label(above: &[u8], table: &mut [Entry], name: u64, i: u64) -> Option<Check>
+    requires known { Known above.now table.old }
     requires named { name ≡ 0 → ⊥ }
     ensures { (result ≡ label_no (aim_of (items_of above.now) name))
-        × (names.new ≡ labels_after names.old name names.old name)
-        × (numbers.new ≡ labels_after names.old name numbers.old i) }
+        × (table.new ≡ table_after table.old name i) }
 {
-    let probed = define(names, numbers, name, i);
-    match probed {
-        Probed::Here(_) => 22,
-        Probed::Free(_) => 0,
-        Probed::Crowded => label_no(scan(above, name)),
+    match define(table, name, i) {
+        Probed::Here(_) => Some(Check::Label),
+        Probed::Free(_) => None,
+        Probed::Crowded => {
+            scan(above, name)?;
+            Some(Check::Label)
+        }
     }
 }
 
-fn halfword_of(said: Meaning) -> u16
-    ensures { result ≡ meant_halfword said }
-{
-    match said {
-        Meaning::Halfword(h) => h,
-        Meaning::Nothing => 0,
-        Meaning::Fault(_) => 0,
-    }
-}
-
-fn number_of(said: Meaning) -> u8
-    ensures { result ≡ meant_no said }
-{
-    match said {
-        Meaning::Halfword(_) => 0,
-        Meaning::Nothing => 0,
-        Meaning::Fault(number) => number,
-    }
-}
-
-// Notes instruction `i` on line `k`, and answers check 23 of it: the check's
-// number, or 0. A branch is not asked until all labels are known.
-fn enter_instruction(
-    halfwords: &mut [u16],
-    aims: &mut [u64],
-    lines: &mut [u64],
-    item: Item,
-    k: u64,
-    i: u64,
-) -> u8
+// Notes instruction `i` on line `k`, and answers check 23, if it fails that. A
+// branch is not asked until all labels are known.
+fn enter_instruction(notes: &mut [Note], item: Item, k: u64, i: u64) -> Option<Check>
     ensures { (result ≡ instruction_no (item_in item) i)
-        × (halfwords.new ≡ set halfwords.old i (halfword_noted (item_in item) i))
-        × (aims.new ≡ set aims.old i (aim_noted (item_in item)))
-        × (lines.new ≡ set lines.old i k) }
+        × (notes.new ≡ set notes.old i (note_of (item_in item) i k)) }
 {
-    let row = item.row;
-    let values = item.values;
-    put_wide(lines, i, k);
-    if row == 17 {
-        put(halfwords, i, narrow(values.a) as u16);
-        put_wide(aims, i, values.b);
-        return 0;
+    if item.row == 17 {
+        let says = Says::Branch {
+            cond: narrow(item.values.a),
+            name: item.values.b,
+        };
+        put(notes, i, Note { says, line: k });
+        return None;
     }
-    let said = field_of(item, i, 0);
-    put(halfwords, i, halfword_of(said));
-    put_wide(aims, i, 0);
-    number_of(said)
+    let halfword = field_of(item, i, 0);
+    let says = Says::Halfword(halfword.unwrap_or(0));
+    put(notes, i, Note { says, line: k });
+    halfword.err()
 }
 
 // Enters line `k`, above which there are `i` instructions, and answers the check
-// that it fails whatever branches do, or 0.
+// that it fails whatever branches do.
 fn enter(
     above: &[u8],
-    names: &mut [u64],
-    numbers: &mut [u64],
-    halfwords: &mut [u16],
-    aims: &mut [u64],
-    lines: &mut [u64],
+    table: &mut [Entry],
+    notes: &mut [Note],
     item: Item,
     k: u64,
     i: u64,
-) -> u8
-    requires known { Known above.now names.old numbers.old }
+) -> Option<Check>
+    requires known { Known above.now table.old }
     requires named { Named item }
     requires i_value { i ≡ instructions_in (items_of above.now) }
     ensures { (result ≡ line_no (items_of above.now) (item_in item))
-        × (names.new ≡ column_after item.row names.old item.values.a names.old
-        item.values.a)
-        × (numbers.new ≡ column_after item.row names.old item.values.a
-        numbers.old i)
-        × (halfwords.new ≡ notes_after item.row halfwords.old i (halfword_noted (item_in item) i))
-        × (aims.new ≡ notes_after item.row aims.old i (aim_noted (item_in item)))
-        × (lines.new ≡ notes_after item.row lines.old i k) }
+        × (table.new ≡ entries_after item.row table.old item.values.a i)
+        × (notes.new ≡ notes_after item.row notes.old i (note_of (item_in item) i k)) }
 {
-    let row = item.row;
-    let values = item.values;
-    if row == 0 {
-        return enter_label(above, names, numbers, values.a, i);
+    if item.row == 0 {
+        return enter_label(above, table, item.values.a, i);
     }
-    enter_instruction(halfwords, aims, lines, item, k, i)
+    enter_instruction(notes, item, k, i)
 }
 
 // Reads all lines: enters their labels into the empty table, and notes their
 // instructions as far as there is room.
 pub(crate) fn read_all(
     text: &[u8],
-    names: &mut [u64],
-    numbers: &mut [u64],
-    halfwords: &mut [u16],
-    aims: &mut [u64],
-    lines: &mut [u64],
-) -> Counted
-    requires holds { Holds names.old numbers.old [] }
-    requires columns { (length aims.old ≡ length halfwords.old) × (length lines.old ≡ length halfwords.old) }
+    table: &mut [Entry],
+    notes: &mut [Note],
+) -> Result<Counted, TextRefusal>
+    requires { Holds table.old [] }
     ensures { (result ≡ read_as (read_from 1 (lines_of text.now)))
-        × Entered names.new numbers.new halfwords.new aims.new
-        lines.new (read_from 1 (lines_of text.now)) }
+        × Entered table.new notes.new (read_from 1 (lines_of text.now)) }
 {
     let mut at = 0;
     let mut k: u64 = 1;
     let mut i: u64 = 0;
-    let mut flaw = Flaw { number: 0, line: 0 };
+    let mut flaw = None;
     while at < text.len() {
-        let Parsed::Line { item, next } = parse(text, at) else {
-            return Counted::NoLine(k);
+        let Some(Line { item, next }) = parse(text, at) else {
+            return Err(TextRefusal {
+                check: Check::Line,
+                line: k,
+            });
         };
-        let no = enter(
-            &text[..at],
-            names,
-            numbers,
-            halfwords,
-            aims,
-            lines,
-            item,
-            k,
-            i,
-        );
-        let first = first_flaw(flaw, no, k);
-        flaw = first;
+        let failed = enter(&text[..at], table, notes, item, k, i);
+        flaw = first_flaw(flaw, failed, k);
         i = next_number(item.row, i);
         at = next;
         k += 1;
     }
-    Counted::Instructions { n: i, flaw }
+    Ok(Counted { n: i, flaw })
 }

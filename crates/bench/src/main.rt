@@ -2,13 +2,13 @@
 // each computed by the proved functions. The manual's date comes first.
 #![tactic(auto)]
 
-mod console;
 mod counts;
 mod rows;
 
+use streams::Ascii;
+
 fn main(rt: HostRuntime) {
-    console::print(&rt, &isa::MANUAL_DATE);
-    console::print(&rt, b"\n");
+    let _ = println!(rt; "{}", Ascii(&isa::MANUAL_DATE));
     rows::print_shift(&rt);
     rows::print_verdicts(&rt);
     counts::print_totals(&rt);

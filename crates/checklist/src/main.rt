@@ -7,34 +7,21 @@
 #![tactic(auto)]
 
 mod argument;
-mod console;
 mod places;
 mod report;
 mod words;
-
-use argument::Budget;
 
 // One byte more than the longest image, so that a longer file is seen to be
 // longer and no more of it is read.
 const MOST: usize = image::MOST_BYTES + 1;
 
-fn go_through(rt: &(impl Input + Print + Eprint + AllocGlobal), budget: u32) {
-    let mut buffer = [0u8; MOST];
-    match streams::read_full(rt, &mut buffer) {
-        Ok(n) => {
-            if let Err(error) = report::print_lines(rt, &buffer[..n], budget) {
-                streams::say_failure(rt, "checklist: standard output", error);
-            }
-        }
-        Err(error) => streams::say_failure(rt, "checklist: standard input", error),
-    }
-}
-
 fn main(rt: HostRuntime) {
-    let budget = argument::read_budget(&rt);
-    if let Budget::Steps(n) = budget {
-        go_through(&rt, n);
-    } else {
-        argument::refuse(&rt, budget);
+    match argument::read_budget(&rt) {
+        Ok(budget) => streams::answer_input(&rt, "checklist", &mut [0u8; MOST], |file| {
+            report::print_lines(&rt, file, budget)
+        }),
+        Err(error) => {
+            let _ = eprintln!(rt; "checklist: {error}");
+        }
     }
 }

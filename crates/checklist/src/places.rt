@@ -1,130 +1,125 @@
 // What a file has where a check failed.
-use super::console::{print, print_halfword, print_number};
+use digits::Hex;
 use image::{BLOCK_BYTES, BLOCK_CODE, HEADER_BYTES, MOST_BYTES};
-use refusals::Place;
+use refusals::{Check, Place, Refusal};
 use std::io;
+use streams::Ascii;
 use units::{ByteAddress, InstructionIndex};
 
-// Halfword `j` of block `k`, 0 where the file has none.
-fn field(file: &[u8], k: u8, j: u8) -> u16 {
-    let p = BLOCK_BYTES * k as usize + 2 * j as usize;
-    if p + 2 > file.len() {
-        return 0;
-    }
-    units::halfword_at(file, p)
+// The halfword at a byte of the file, if it has one there.
+fn halfword_at(file: &[u8], p: usize) -> Option<u16> {
+    let bytes = file.get(p..)?.first_chunk::<2>()?;
+    Some(u16::from_le_bytes(*bytes))
 }
 
-// A part of a line: some words, and a field of a block behind them.
-fn print_field(rt: &impl Print, words: &[u8], file: &[u8], k: u8, j: u8) -> io::Result<()> {
-    print(rt, words)?;
-    print_number(rt, field(file, k, j) as u64)
+// What a block says of itself.
+#[derive(Clone, Copy)]
+struct Header {
+    mark: u16,
+    number: u16,
+    used: u16,
+    window_start: u16,
+    window_length: u16,
+    blocks: u16,
+}
+
+impl Header {
+    // The header of block `k`, 0 where the file has none.
+    fn of(file: &[u8], k: u8) -> Header {
+        let field = |j: usize| {
+            halfword_at(file, BLOCK_BYTES * usize::from(k) + 2 * j).unwrap_or(0)
+        };
+        Header {
+            mark: field(0),
+            number: field(1),
+            used: field(2),
+            window_start: field(3),
+            window_length: field(4),
+            blocks: field(5),
+        }
+    }
 }
 
 fn print_length(rt: &impl Print, file: &[u8]) -> io::Result<()> {
     if file.len() > MOST_BYTES {
-        return print(rt, b"  Its length in bytes is above 32768.\n");
+        return println!(rt; "  Its length in bytes is above {MOST_BYTES}.");
     }
-    print(rt, b"  Its length in bytes is ")?;
-    print_number(rt, file.len() as u64)?;
-    print(rt, b".\n")
+    println!(rt; "  Its length in bytes is {}.", file.len())
 }
 
 // The length in bytes of the code of a file whose blocks are in order.
 fn code_bytes(file: &[u8]) -> u16 {
-    if file.len() < BLOCK_BYTES {
+    let Some(last) = (file.len() / BLOCK_BYTES).checked_sub(1) else {
         return 0;
-    }
-    let last = ((file.len() / BLOCK_BYTES - 1) % 64) as u8;
-    let used = field(file, last, 2) as usize;
-    let end = units::byte_address(InstructionIndex(
-        ((BLOCK_CODE * last as usize + used) % 65536) as u16,
-    ));
-    end.0
+    };
+    let used = Header::of(file, (last % 64) as u8).used;
+    let halfwords = BLOCK_CODE * (last % 64) + usize::from(used);
+    ByteAddress::from(InstructionIndex((halfwords % 65536) as u16)).0
 }
 
 fn print_layout(rt: &impl Print, file: &[u8]) -> io::Result<()> {
-    print(rt, b"  The code has ")?;
-    print_number(rt, code_bytes(file) as u64)?;
-    print_field(rt, b" bytes, w is ", file, 0, 3)?;
-    print_field(rt, b", l is ", file, 0, 4)?;
-    print(rt, b".\n")
-}
-
-// What a block says of itself.
-fn print_header(rt: &impl Print, file: &[u8], k: u8) -> io::Result<()> {
-    print(rt, b"  Block ")?;
-    print_number(rt, k as u64)?;
-    print(rt, b" starts with ")?;
-    print_halfword(rt, field(file, k, 0))?;
-    print_field(rt, b" and says: number ", file, k, 1)?;
-    print_field(rt, b" of ", file, k, 5)?;
-    print_field(rt, b", ", file, k, 2)?;
-    print_field(rt, b" halfwords of code, w ", file, k, 3)?;
-    print_field(rt, b", l ", file, k, 4)?;
-    print(rt, b".\n")
+    let first = Header::of(file, 0);
+    println!(rt;
+        "  The code has {} bytes, w is {}, l is {}.",
+        code_bytes(file),
+        first.window_start,
+        first.window_length
+    )
 }
 
 // What a block says of itself, and what that was held to, where it is the file's.
-fn print_block(rt: &impl Print, file: &[u8], number: u8, k: u8) -> io::Result<()> {
-    print_header(rt, file, k)?;
-    match number {
-        5 => {
-            print(rt, b"  The number of blocks in the file is ")?;
-            print_number(rt, (file.len() / BLOCK_BYTES) as u64)?;
-            print(rt, b".\n")
-        }
-        7 => {
-            print_field(rt, b"  Block 0 says: w ", file, 0, 3)?;
-            print_field(rt, b", l ", file, 0, 4)?;
-            print(rt, b".\n")
+fn print_block(rt: &impl Print, file: &[u8], check: Check, k: u8) -> io::Result<()> {
+    let block = Header::of(file, k);
+    println!(rt;
+        "  Block {k} starts with {} and says: number {} of {}, {} halfwords of code, w {}, l {}.",
+        Hex(block.mark),
+        block.number,
+        block.blocks,
+        block.used,
+        block.window_start,
+        block.window_length
+    )?;
+    match check {
+        Check::Numbering => println!(rt;
+            "  The number of blocks in the file is {}.",
+            file.len() / BLOCK_BYTES
+        ),
+        Check::SameWindow => {
+            let first = Header::of(file, 0);
+            println!(rt;
+                "  Block 0 says: w {}, l {}.",
+                first.window_start, first.window_length
+            )
         }
         _ => Ok(()),
     }
 }
 
-// A halfword, and the instruction that it is, as a listing has it.
-fn print_listed(rt: &impl Print, h: u16, a: ByteAddress) -> io::Result<()> {
-    print_halfword(rt, h)?;
-    let line = lister::instruction_line(h, a);
-    let bytes = line.bytes;
-    let n = line.length;
-    if n == 0 {
-        return print(rt, b", which is no instruction.\n");
-    }
-    print(rt, b": ")?;
-    print(rt, &bytes[..n])
-}
-
+// The halfword at an address, and the instruction that it is, as a listing has it.
 fn print_instruction(rt: &impl Print, file: &[u8], a: ByteAddress) -> io::Result<()> {
-    let i = units::instruction_index(a);
-    let number = i.0 as usize;
-    let start = number / BLOCK_CODE * BLOCK_BYTES + HEADER_BYTES + 2 * (number % BLOCK_CODE);
-    if start + 2 > file.len() {
+    let number = usize::from(InstructionIndex::from(a).0);
+    let start = number / BLOCK_CODE * BLOCK_BYTES + HEADER_BYTES;
+    let Some(h) = halfword_at(file, start + 2 * (number % BLOCK_CODE)) else {
         return Ok(());
+    };
+    print!(rt; "  At address {} stands {}", a.0, Hex(h))?;
+    let line = lister::instruction_line(h, a);
+    if line.as_bytes().is_empty() {
+        println!(rt; ", which is no instruction.")
+    } else {
+        print!(rt; ": {}", Ascii(line.as_bytes()))
     }
-    print(rt, b"  At address ")?;
-    print_number(rt, a.0 as u64)?;
-    print(rt, b" stands ")?;
-    print_listed(rt, image::code_at(file, i), a)
 }
 
-// What stands where check `number` failed: the instruction, what the block says,
-// or of the file as a whole what the check is about.
-pub(crate) fn print_place(
-    rt: &impl Print,
-    file: &[u8],
-    number: u8,
-    place: Place,
-) -> io::Result<()> {
-    match place {
+// What stands where a check failed: the instruction, what the block says, or of the
+// file as a whole what the check is about.
+pub(crate) fn print_place(rt: &impl Print, file: &[u8], refusal: Refusal) -> io::Result<()> {
+    match refusal.place {
         Place::Address(a) => print_instruction(rt, file, a),
-        Place::Block(k) => print_block(rt, file, number, k),
-        Place::Nowhere => {
-            if number == 8 {
-                print_layout(rt, file)
-            } else {
-                print_length(rt, file)
-            }
-        }
+        Place::Block(k) => print_block(rt, file, refusal.check, k),
+        Place::Nowhere => match refusal.check {
+            Check::Window => print_layout(rt, file),
+            _ => print_length(rt, file),
+        },
     }
 }

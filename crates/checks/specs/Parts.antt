@@ -1,6 +1,6 @@
 -- Checks 10 to 14, each as an outcome: it passes, or it says which has failed. Only the contracts of functions that are
 -- no entry points speak of it.
-use Rattle.std.specs.Prelude.{true, cond, not, ℕ, eqb, Some, Result, Ok, Err, ⊤}
+use Rattle.std.specs.Prelude.{true, cond, not, ℕ, eqb, Some, Result, Err, ⊤}
 use Rattle.units.specs.declared.address.ByteAddress.{ByteAddress}
 use Rattle.refusals.specs.declared.check.Check.{Check}
 use Rattle.refusals.specs.declared.check.Check.TheVariants as check

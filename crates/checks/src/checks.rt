@@ -3,10 +3,11 @@ ghost use Rattle.std.specs.Prelude.{false, ◌≡◌, ◌<◌};
 ghost use Rattle.units.specs.Field.{field};
 ghost use Rattle.isa.specs.Access.{halfword_access, byte_access};
 ghost use Rattle.checks.specs.Parts.{access_check, write_check, target_check, last_check};
+ghost use Rattle.checks.specs.Questions.{answer_at};
 
 use domain::Value;
 use image::Layout;
-use refusals::Check;
+use refusals::{Check, Refusal};
 use units::ByteAddress;
 
 // R15 is the PC.
@@ -76,4 +77,12 @@ pub fn check_target(target: ByteAddress, layout: Layout) -> Result<(), Check>
     } else {
         Err(Check::Target)
     }
+}
+
+// What the checks of the instruction at an address answer that have found
+// `found`: a refusal says where.
+pub fn answer_at(a: ByteAddress, found: Result<(), Check>) -> Result<(), Refusal>
+    ensures { result ≡ answer_at a found }
+{
+    found.map_err(|check| Refusal::at(check, a))
 }

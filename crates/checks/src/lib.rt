@@ -4,4 +4,6 @@
 
 mod checks;
 
-pub use checks::{PC, check_byte, check_halfword, check_last, check_target, check_write};
+pub use checks::{
+    PC, answer_at, check_byte, check_halfword, check_last, check_target, check_write,
+};

@@ -1,6 +1,7 @@
 -- What the bits tell by which the code sends a halfword to its function, where the definition goes by the top three.
 use Rattle.std.proofs.Common.{◌≡◌, ℕ, zero, suc, ◌+◌, ◌*◌, ◌/◌, ◌%◌, ◌<◌, ◌≤◌, Bool, true, false, eqb, ltb, sym, refl}
 use Rattle.std.proofs.Common.{ap, ◌∙◌, arith, lit<, ltb-true, le-ltb, lt-ltb, ne_eqb, eqb-true}
+use Rattle.std.specs.Prelude.{Some, None}
 use borrow.Author.Tests.{eqb-false}
 use Rattle.units.specs.Field.{field, high_rs, high_rd}
 use Rattle.isa.specs.Decode.{entry, imm_table, alu_table, high_table, table, decode_of}
@@ -8,7 +9,6 @@ use Rattle.isa.specs.declared.instruction.Instruction.TheVariants.{AddHigh, CmpH
 use Rattle.isa.proofs.Table.{entry_past, skip}
 use Rattle.isa.proofs.Formats.{parts, no_memory}
 use Rattle.cpu.specs.Held.{branch_else, other_else}
-use Rattle.std.specs.Prelude.{Some, None}
 
 -- the last arm of a `match` is told that the number is none of those above it
 abbrev pub Not : ℕ → ℕ → Type 0

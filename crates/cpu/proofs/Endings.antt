@@ -1,6 +1,7 @@
 -- How a step may end: it completes, it sets the note at HALT, or it leaves everything as it was.
 use Rattle.std.proofs.Common.{◌≡◌, ℕ, ◌*◌, ◌%◌, Bool, true, false, cond, eqb, ◌⊎◌, List, length, sym, refl, ap, ◌∙◌}
 use Rattle.std.proofs.Common.{inl, inr, ⊎_elim, arith}
+use Rattle.std.specs.Prelude.{Option, Some, None}
 use Rattle.units.specs.Address.{memory_bytes}
 use Rattle.units.specs.Bytes.{halfword_at, with_halfword}
 use Rattle.units.proofs.Cases.{clash}
@@ -14,10 +15,11 @@ use Rattle.isa.specs.declared.instruction.Instruction.TheVariants.{AddPc, Branch
 use Rattle.isa.proofs.Halts.{halt_own}
 use Rattle.cpu.specs.declared.machine.Machine.{Machine}
 use Rattle.cpu.specs.declared.outcome.Outcome.TheVariants.{Completed, Halted, Stopped, Refused}
+use Rattle.cpu.specs.declared.outcome.Stop.{Stop}
+use Rattle.cpu.specs.declared.outcome.Stop.TheVariants as stop
 use Rattle.cpu.specs.Machine.{pc, flags, updated, with_note, advanced, written, reg}
 use Rattle.cpu.specs.Step.{StepResult, step_result, completed, stopped, effective_address, aligned, ldr_of, str_of}
 use Rattle.cpu.specs.Step.{strb_of, execute_of, execute_decoded, fetched, low_byte, fetch_and_execute, step_of}
-use Rattle.std.specs.Prelude.{Option, Some, None}
 
 -- what holds of both arms of a test holds of the test's
 pub cond_keeps : {A : Type 0} (Q : A → Type 0) (test : Bool) (x y : A) → Q x → Q y → Q (cond test x y)
@@ -28,14 +30,14 @@ cond_keeps Q false x y p q = q
 pub halted_not_completed : Halted ≡ Completed → ⊥
 halted_not_completed e = clash (cc)
 
-pub stopped_not_completed : (number : ℕ) → Stopped number ≡ Completed → ⊥
-stopped_not_completed number e = clash (cc)
+pub stopped_not_completed : (why : Stop) → Stopped why ≡ Completed → ⊥
+stopped_not_completed why e = clash (cc)
 
 pub refused_not_completed : (q : Refusal) → Refused q ≡ Completed → ⊥
 refused_not_completed q e = clash (cc)
 
-pub stopped_not_halted : (number : ℕ) → Stopped number ≡ Halted → ⊥
-stopped_not_halted number e = clash (cc)
+pub stopped_not_halted : (why : Stop) → Stopped why ≡ Halted → ⊥
+stopped_not_halted why e = clash (cc)
 
 pub refused_not_halted : (q : Refusal) → Refused q ≡ Halted → ⊥
 refused_not_halted q e = clash (cc)
@@ -68,12 +70,12 @@ execute_whole note (Str offset rb rd) m memory own =
     cond_keeps (Ending note m memory) (aligned (effective_address m rb (4 * offset)))
     (completed (updated m (advanced m.regs) (flags m))
     (with_halfword memory (effective_address m rb (4 * offset)) (reg m rd)))
-    (stopped 20 m memory) (inl refl) (inr (inr (refl, stopped_not_halted 20)))
+    (stopped stop.Misaligned m memory) (inl refl) (inr (inr (refl, stopped_not_halted stop.Misaligned)))
 execute_whole note (Ldr offset rb rd) m memory own =
     cond_keeps (Ending note m memory) (aligned (effective_address m rb (4 * offset)))
     (completed
     (updated m (written m.regs rd (halfword_at memory (effective_address m rb (4 * offset)))) (flags m)) memory)
-    (stopped 20 m memory) (inl refl) (inr (inr (refl, stopped_not_halted 20)))
+    (stopped stop.Misaligned m memory) (inl refl) (inr (inr (refl, stopped_not_halted stop.Misaligned)))
 execute_whole note (Strb offset rb rd) m memory own = inl refl
 execute_whole note (Ldrb offset rb rd) m memory own = inl refl
 execute_whole note (AddPc rd imm) m memory own = inl refl
@@ -90,7 +92,7 @@ module _ (m : Machine) (memory : List ℕ) where
   decoded_whole (Some i) e =
       execute_whole low i m memory
       (λ own is. let halt = halt_own (halfword_at memory (pc m)) own (e ∙ ap Some is) in omega (arith, halt))
-  decoded_whole None e = inr (inr (refl, stopped_not_halted 19))
+  decoded_whole None e = inr (inr (refl, stopped_not_halted stop.Undefined))
 
   pub how_ends : Ending low m memory (step_of m memory)
   unfolding step_of fetch_and_execute
@@ -98,8 +100,8 @@ module _ (m : Machine) (memory : List ℕ) where
       cond_keeps (Ending low m memory) (eqb (length memory) memory_bytes)
       (fetch_and_execute m memory) (step_result m memory (Refused (refusal check.MemorySize)))
       (cond_keeps (Ending low m memory) (eqb (pc m % 2) 0)
-      (execute_decoded (fetched m memory) m memory) (stopped 18 m memory)
-      (decoded_whole (fetched m memory) refl) (inr (inr (refl, stopped_not_halted 18))))
+      (execute_decoded (fetched m memory) m memory) (stopped stop.OddPc m memory)
+      (decoded_whole (fetched m memory) refl) (inr (inr (refl, stopped_not_halted stop.OddPc))))
       (inr (inr (refl, refused_not_halted (refusal check.MemorySize))))
 
   -- a step that ends by HALT has set the note, and nothing else

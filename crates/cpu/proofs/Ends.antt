@@ -1,5 +1,5 @@
 -- How the ends of instructions leave a machine held.
-use Rattle.std.proofs.Common.{◌≡◌, ℕ, ◌+◌, ◌<◌, List, get_or, set, sym, ap, ◌∙◌, ap₂, arith, length-set}
+use Rattle.std.proofs.Common.{◌≡◌, ℕ, ◌+◌, ◌<◌, List, get_or, set, sym, ap, ◌∙◌, ap₂, arith}
 use Rattle.std.proofs.Common.{get_or-set_other, get_or-set_same, set-set}
 use lib.Seq.{set_comm}
 use Rattle.units.specs.Address.{wrap}
@@ -8,8 +8,8 @@ use Rattle.alu.specs.declared.control.Control.{Control}
 use Rattle.cpu.specs.declared.machine.Machine.{Machine}
 use Rattle.alu.specs.Flags.{Flags}
 use Rattle.cpu.specs.Machine.{advanced, written}
-use Rattle.alu.specs.Control.{flags_in}
-use Rattle.cpu.specs.Held.{moved, bare, Whole, Holds}
+use Rattle.alu.specs.Control.{flags_in, moved}
+use Rattle.cpu.specs.Held.{bare, held, Whole}
 
 -- R0 to R7 are as the array has them
 pub low_is : (regs : List ℕ) (pc r : ℕ) → r < 8 → get_or (set regs 15 pc) r 0 ≡ get_or regs r 0
@@ -42,40 +42,25 @@ module _ (regs : List ℕ) (pc : ℕ) (whole : Whole regs) where
 
 module _ (regs : List ℕ) (k : Control) (rd x : ℕ) (whole : Whole regs) {k' : Control} where
   pub write_holds : (rd ≡ 15 → ⊥) → k' ≡ moved (wrap (k.pc + 2)) k
-      → Holds (set regs rd x) k' (bare (written (set regs 15 k.pc) rd x) (flags_in k))
-  write_holds other is =
-      record {
-        machine = rw (is, write_is regs k.pc whole rd x other);
-        whole = length-set regs rd x ∙ whole;
-      }
+      → held (set regs rd x) k' ≡ bare (written (set regs 15 k.pc) rd x) (flags_in k)
+  write_holds other is = rw (is, write_is regs k.pc whole rd x other)
 
-  pub write_pc_holds : rd ≡ 15 → k' ≡ moved x k
-      → Holds regs k' (bare (written (set regs 15 k.pc) rd x) (flags_in k))
-  write_pc_holds named is = record { machine = rw (is, write_pc_is regs k.pc whole rd x named); whole = whole }
+  pub write_pc_holds : rd ≡ 15 → k' ≡ moved x k → held regs k' ≡ bare (written (set regs 15 k.pc) rd x) (flags_in k)
+  write_pc_holds named is = rw (is, write_pc_is regs k.pc whole rd x named)
 
 -- no result, with the flags as another control has them
 pub advance_holds : (regs : List ℕ) (g : Control) {k' : Control} {pc : ℕ} {f : Flags} → Whole regs
     → k' ≡ moved (wrap (g.pc + 2)) g → (g.pc ≡ pc) × (flags_in g ≡ f)
-    → Holds regs k' (bare (advanced (set regs 15 pc)) f)
+    → held regs k' ≡ bare (advanced (set regs 15 pc)) f
 advance_holds regs g {pc = pc} whole is flagged =
-    record { machine = rw is (ap₂ bare (rw flagged.0 (moved_on regs pc whole)) flagged.1); whole = whole }
+    rw is (ap₂ bare (rw flagged.0 (moved_on regs pc whole)) flagged.1)
 
 -- a result, with the PC and the flags as another control has them
-pub flags_as : (l : List ℕ) (rd x : ℕ) {regs : List ℕ} {k : Control} {pc pc' : ℕ} {f f' : Flags} → (pc ≡ pc') × (f ≡ f')
-    → Holds regs k (bare (written (set l 15 pc) rd x) f) → Holds regs k (bare (written (set l 15 pc') rd x) f')
+pub flags_as : (l : List ℕ) (rd x : ℕ) {m : Machine} {pc pc' : ℕ} {f f' : Flags} → (pc ≡ pc') × (f ≡ f')
+    → m ≡ bare (written (set l 15 pc) rd x) f → m ≡ bare (written (set l 15 pc') rd x) f'
 flags_as l rd x same holds =
-    record {
-      machine = holds.machine ∙ ap₂ (λ (pc : ℕ) (f : Flags). bare (written (set l 15 pc) rd x) f) same.0 same.1;
-      whole = holds.whole;
-    }
-
--- registers that are known
-pub held_as : {regs same : List ℕ} {k : Control} {m : Machine} → same ≡ regs → Holds regs k m → Holds same k m
-held_as is holds = rw is holds
+    holds ∙ ap₂ (λ (pc : ℕ) (f : Flags). bare (written (set l 15 pc) rd x) f) same.0 same.1
 
 -- the array has the PC at 15 when an instruction that may name R15 has shown it; what it had there before doesn't count
 pub set_again : (regs : List ℕ) (pc : ℕ) → set (set regs 15 pc) 15 pc ≡ set regs 15 pc
 set_again regs pc = set-set regs 15 pc pc
-
-pub shown_whole : (regs : List ℕ) (pc : ℕ) {shown : List ℕ} → shown ≡ set regs 15 pc → Whole regs → Whole shown
-shown_whole regs pc is whole = rw is (length-set regs 15 pc ∙ whole)

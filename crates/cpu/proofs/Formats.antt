@@ -1,5 +1,6 @@
 -- How the function of a halfword's format ends.
 use Rattle.std.proofs.Common.{◌≡◌, ℕ, ◌+◌, ◌<◌, ◌≤◌, Bool, true, false, List, sym, refl, ◌∙◌, set-set, le-ltb, lt-ltb}
+use Rattle.std.specs.Prelude.{Option, None}
 use Rattle.units.specs.Address.{branch_target_of}
 use Rattle.units.specs.Field.{field}
 use Rattle.isa.specs.Decode.{halt_of}
@@ -7,50 +8,52 @@ use Rattle.alu.specs.declared.control.Control.{Control}
 use Rattle.cpu.specs.declared.held.Executed.{Executed}
 use Rattle.cpu.specs.declared.machine.Machine.{Machine}
 use Rattle.cpu.specs.declared.outcome.Outcome.TheVariants.{Completed, Halted, Stopped}
+use Rattle.cpu.specs.declared.outcome.Stop.TheVariants as stop
+use Rattle.traffic.specs.declared.log.Log.{Log}
 use Rattle.alu.specs.Alu.{condition_of}
 use Rattle.cpu.specs.Step.{completed, branch_of as branchStep, execute_of}
 use Rattle.alu.specs.Control.{flags_in}
-use Rattle.cpu.specs.Held.{held, branched, Told, told_decoded, Whole, Holds, Leads, Beside, branch_else}
+use Rattle.cpu.specs.Held.{held, branched, Told, told_decoded, Whole, Leads, Beside, branch_else}
 use Rattle.cpu.proofs.Ends.{pc_is, moved_on}
 use Rattle.cpu.proofs.Access.{Gave, leads, stays}
 use Rattle.cpu.proofs.Dispatch.{is_branch}
-use Rattle.std.specs.Prelude.{Option, None}
 use Rattle.isa.specs.declared.instruction.Instruction.{Instruction}
 
 -- a completed step that touched no data
-abbrev pub quiet : Machine → List ℕ → List ℕ → Told
+abbrev pub quiet : Machine → List ℕ → Log → Told
 quiet m memory log = record { result = completed m memory; log = log }
 
 -- what a halfword does whose meaning is known
-module _ (first : Machine) (memory log : List ℕ) (step : ℕ) where
-  pub leads_as : {d known : (Option Instruction)} {regs memory' log' : List ℕ} {e : Executed} → d ≡ known
+module _ (first : Machine) (memory : List ℕ) (log : Log) (step : ℕ) where
+  pub leads_as : {d known : Option Instruction} {regs memory' : List ℕ} {log' : Log} {e : Executed}
+      → d ≡ known
       → Leads regs e memory' log' (told_decoded known first memory step log)
       → Leads regs e memory' log' (told_decoded d first memory step log)
   leads_as is done = rw is done
 
   -- an instruction that leaves memory and log alone
-  pub arm : {d known : (Option Instruction)} {regs : List ℕ} {e : Executed} {k : Control} {m : Machine} → d ≡ known
-      → told_decoded known first memory step log ≡ quiet m memory log → Gave e k Completed → Holds regs k m
+  pub arm : {d known : Option Instruction} {regs : List ℕ} {e : Executed} {k : Control} {m : Machine} → d ≡ known
+      → told_decoded known first memory step log ≡ quiet m memory log → Gave e k Completed → held regs k ≡ m
       → Leads regs e memory log (told_decoded d first memory step log)
-  arm is does gave holds = rw (is, does) (leads memory log gave holds)
+  arm {regs = regs} is does gave holds = rw (is, does) (leads regs memory log gave holds)
 
 -- a halfword that means nothing
-pub none : (d : Option Instruction) (k : Control) (e : Executed) → d ≡ None → Gave e k (Stopped 19) → Beside e k d
-none d k e is gave regs memory log step whole = rw is (stays memory log gave whole)
+pub none : (d : Option Instruction) (k : Control) (e : Executed) → d ≡ None → Gave e k (Stopped stop.Undefined) → Beside e k d
+none d k e is gave regs memory log step whole = rw is (stays regs memory log gave)
 
 pub halts : (h : ℕ) (k : Control) → h < 256 → Beside (record { control = k; outcome = Halted }) k (halt_of h)
 unfolding execute_of
-halts h k is regs memory log step whole = simp (lt-ltb h 256 is) (record { result = refl; logs = refl; whole = whole })
+halts h k is regs memory log step whole = simp (lt-ltb h 256 is) (record { result = refl; logs = refl })
 
-pub no_halt : (h : ℕ) (k : Control) (e : Executed) → 256 ≤ h → Gave e k (Stopped 19) → Beside e k (halt_of h)
+pub no_halt : (h : ℕ) (k : Control) (e : Executed) → 256 ≤ h → Gave e k (Stopped stop.Undefined) → Beside e k (halt_of h)
 no_halt h k e other gave = none (halt_of h) k e (simp (le-ltb h 256 other)) gave
 
 -- what a branch leaves beside the registers is what it does
 pub branch_holds : (n offset : ℕ) (regs : List ℕ) (k : Control) {k' : Control} {test : Bool} → Whole regs
     → test ≡ condition_of n (flags_in k) → k' ≡ branched test offset k
-    → Holds regs k' (branchStep n offset (held regs k))
+    → held regs k' ≡ branchStep n offset (held regs k)
 unfolding branchStep
-branch_holds n offset regs k {test = test} whole asked is = record { machine = rw is (go test refl); whole = whole }
+branch_holds n offset regs k {test = test} whole asked is = rw is (go test refl)
   where
     go : (t : Bool) → test ≡ t → held regs (branched test offset k) ≡ branchStep n offset (held regs k)
     go true e =

@@ -5,4 +5,3 @@ pub mod Dispatch
 pub mod Fetch
 pub mod Endings
 pub mod Notes
-pub mod Traffic

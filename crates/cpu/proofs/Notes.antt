@@ -1,6 +1,7 @@
 -- No instruction looks at the note. A step from another note ends as it did, with the same registers, flags and memory,
 -- and the note is that other one unless HALT has left its own.
 use Rattle.std.proofs.Common.{◌≡◌, ℕ, ◌*◌, ◌%◌, Bool, true, false, cond, eqb, List, length, sym, refl, ap, ◌∙◌, ap₂}
+use Rattle.std.specs.Prelude.{Option, Some, None}
 use Rattle.units.specs.Address.{memory_bytes}
 use Rattle.isa.specs.declared.instruction.Instruction.{Instruction}
 use Rattle.isa.specs.declared.instruction.Instruction.TheVariants.{MovImm, CmpImm, And, Eor, Asr, Tst, Neg, Cmp}
@@ -17,13 +18,12 @@ use Rattle.cpu.specs.Step.{fetched, fetch_and_execute, step_of, mov_imm_of, cmp_
 use Rattle.cpu.specs.Step.{neg_of, cmp_of, add_high_of, cmp_high_of, mov_high_of, str_of, ldr_of, strb_of, ldrb_of}
 use Rattle.cpu.specs.Step.{add_pc_of}
 use Rattle.cpu.specs.Step.{branch_of}
-use Rattle.std.specs.Prelude.{Option, Some, None}
 
 -- HALT's own note stays
 abbrev pub keeping : Outcome → ℕ → Machine → Machine
 keeping Completed n m = with_note n m
 keeping Halted n m = m
-keeping (Stopped number) n m = with_note n m
+keeping (Stopped why) n m = with_note n m
 keeping (Refused r) n m = with_note n m
 
 -- a step's result with that note
@@ -93,5 +93,5 @@ bare_step m memory other =
         ≡ unnoted (step_result (keeping o 0 s.machine) s.memory o)
     kept Completed s other = refl
     kept Halted s other = absurd (other refl)
-    kept (Stopped number) s other = refl
+    kept (Stopped why) s other = refl
     kept (Refused r) s other = refl

@@ -7,7 +7,7 @@ use Rattle.units.specs.Field.{field}
 use Rattle.isa.specs.Decode.{only, branch_of, decode_of}
 use Rattle.isa.specs.declared.instruction.Instruction.{Instruction}
 use Rattle.alu.specs.declared.control.Control.{Control}
-use Rattle.alu.specs.Control.{flags_in}
+use Rattle.alu.specs.Control.{flags_in, moved}
 use Rattle.alu.specs.Flags.{Flags}
 use Rattle.cpu.specs.declared.machine.Machine.{Machine}
 use Rattle.cpu.specs.declared.held.Executed.{Executed}
@@ -15,11 +15,8 @@ use Rattle.cpu.specs.Machine.{machine, with_note}
 use Rattle.traffic.specs.declared.data.Traffic.{Traffic}
 use Rattle.cpu.specs.Step.{StepResult, step_result, execute_of, execute_decoded}
 use Rattle.cpu.specs.Traffic.{traffic_of, decoded_traffic, when_completed}
+use Rattle.traffic.specs.declared.log.Log.{Log}
 use Rattle.traffic.specs.Log.{logged}
-
--- the same flags at another PC
-abbrev pub moved : ℕ → Control → Control
-moved pc k = record { pc = pc; result = k.result; a = k.a; b = k.b; sum = k.sum }
 
 -- a machine with note 0
 abbrev pub bare : List ℕ → Flags → Machine
@@ -33,11 +30,6 @@ held regs k = bare (slice_set regs 15 k.pc) (flags_in k)
 abbrev pub Whole : List ℕ → Type 0
 Whole regs = length regs ≡ 16
 
--- a machine is held
-pub record Holds (regs : List ℕ) (k : Control) (m : Machine) : Type 0 where
-  pub machine : held regs k ≡ m
-  pub whole : Whole regs
-
 -- a step's result but for its note
 abbrev pub unnoted : StepResult → StepResult
 unnoted r = step_result (with_note 0 r.state.machine) r.state.memory r.outcome
@@ -45,29 +37,28 @@ unnoted r = step_result (with_note 0 r.state.machine) r.state.memory r.outcome
 -- a step's result, and the log after it (Change 2)
 pub record Told : Type 0 where
   pub result : StepResult
-  pub log : List ℕ
+  pub log : Log
 
 -- of the step with a number, which touches this if it completes
-abbrev pub telling : StepResult → Traffic → ℕ → List ℕ → Told
+abbrev pub telling : StepResult → Traffic → ℕ → Log → Told
 telling r t step log = record { result = r; log = logged step (when_completed r.outcome t) log }
 
 -- that of an instruction, and of a halfword so decoded
-abbrev pub told_of : Instruction → Machine → List ℕ → ℕ → List ℕ → Told
+abbrev pub told_of : Instruction → Machine → List ℕ → ℕ → Log → Told
 told_of i m memory = telling (execute_of i m memory) (traffic_of i m)
 
-abbrev pub told_decoded : Option Instruction → Machine → List ℕ → ℕ → List ℕ → Told
+abbrev pub told_decoded : Option Instruction → Machine → List ℕ → ℕ → Log → Told
 told_decoded d m memory = telling (execute_decoded d m memory) (decoded_traffic d m)
 
 -- such a result is held
-pub record Leads (regs : List ℕ) (e : Executed) (memory log : List ℕ) (q : Told) : Type 0 where
+pub record Leads (regs : List ℕ) (e : Executed) (memory : List ℕ) (log : Log) (q : Told) : Type 0 where
   pub result : step_result (held regs e.control) memory e.outcome ≡ unnoted q.result
   pub logs : log ≡ q.log
-  pub whole : Whole regs
 
 -- what a halfword does that leaves registers, memory and log alone, whatever they are
 abbrev pub Beside : Executed → Control → Option Instruction → Type 0
 Beside e k d =
-    (regs memory log : List ℕ) (step : ℕ) → Whole regs
+    (regs memory : List ℕ) (log : Log) (step : ℕ) → Whole regs
     → Leads regs e memory log (told_decoded d (held regs k) memory step log)
 
 -- what a branch leaves beside the registers, taken or not

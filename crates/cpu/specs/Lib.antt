@@ -1,4 +1,5 @@
 pub mod Machine
+pub mod Stop
 pub mod Step
 pub mod Traffic
 pub mod Held

@@ -1,5 +1,6 @@
 -- One step: what each instruction does, under its page's name and in the manual's order, and then a step as a whole.
 use Rattle.std.specs.Prelude.{ℕ, ◌+◌, ◌*◌, ◌%◌, Bool, cond, List, length, ◌==◌, bit_and, bit_xor, slice_set}
+use Rattle.std.specs.Prelude.{Option, Some, None}
 use Rattle.units.specs.Address.{wrap, branch_target_of, pc_sum, memory_bytes}
 use Rattle.refusals.specs.declared.check.Check.TheVariants as check
 use Rattle.refusals.specs.Refusal.{refusal}
@@ -12,10 +13,11 @@ use Rattle.isa.specs.declared.instruction.Instruction.TheVariants.{AddPc, Branch
 use Rattle.cpu.specs.declared.machine.Machine.{Machine}
 use Rattle.cpu.specs.declared.outcome.Outcome.{Outcome}
 use Rattle.cpu.specs.declared.outcome.Outcome.TheVariants.{Completed, Halted, Stopped, Refused}
+use Rattle.cpu.specs.declared.outcome.Stop.{Stop}
+use Rattle.cpu.specs.declared.outcome.Stop.TheVariants as stop
 use Rattle.cpu.specs.Machine.{reg, pc, flags, updated, with_note, advanced, written}
 use Rattle.alu.specs.Alu.{result_flags, sum_of, sum_flags, difference_of, difference_flags, shift_of, shift_flags}
 use Rattle.alu.specs.Alu.{condition_of}
-use Rattle.std.specs.Prelude.{Option, Some, None}
 
 -- a machine and the memory beside it
 pub record State : Type 0 where
@@ -34,8 +36,8 @@ abbrev pub completed : Machine → List ℕ → StepResult
 completed m memory = step_result m memory Completed
 
 -- a stop leaves everything as it was
-abbrev pub stopped : ℕ → Machine → List ℕ → StepResult
-stopped number m memory = step_result m memory (Stopped number)
+abbrev pub stopped : Stop → Machine → List ℕ → StepResult
+stopped why m memory = step_result m memory (Stopped why)
 
 -- a result for Rd of which N and Z speak
 abbrev pub resulting : ℕ → ℕ → Machine → Machine
@@ -106,7 +108,7 @@ ldr_of offset rb rd m memory =
     let a = effective_address m rb (4 * offset) in
     cond (aligned a)
     (completed (updated m (written m.regs rd (halfword_at memory a)) (flags m)) memory)
-    (stopped 20 m memory)
+    (stopped stop.Misaligned m memory)
 
 -- LDRB: one byte, the upper half of Rd 0; no flag
 unfoldable pub ldrb_of : ℕ → ℕ → ℕ → Machine → List ℕ → Machine
@@ -131,7 +133,7 @@ str_of offset rb rd m memory =
     let a = effective_address m rb (4 * offset) in
     cond (aligned a)
     (completed (updated m (advanced m.regs) (flags m)) (with_halfword memory a (reg m rd)))
-    (stopped 20 m memory)
+    (stopped stop.Misaligned m memory)
 
 -- STRB: the low byte of Rd; no flag
 unfoldable pub strb_of : ℕ → ℕ → ℕ → Machine → List ℕ → StepResult
@@ -166,7 +168,7 @@ execute_of (Halt note) m memory = step_result (with_note note m) memory Halted
 -- a halfword that is no instruction: stop 19
 abbrev pub execute_decoded : Option Instruction → Machine → List ℕ → StepResult
 execute_decoded (Some i) m memory = execute_of i m memory
-execute_decoded None m memory = stopped 19 m memory
+execute_decoded None m memory = stopped stop.Undefined m memory
 
 -- what the halfword at the PC says
 unfoldable pub fetched : Machine → List ℕ → Option Instruction
@@ -178,9 +180,11 @@ low_byte s = byte_at s.memory (pc s.machine)
 
 -- an odd PC: stop 18
 unfoldable pub fetch_and_execute : Machine → List ℕ → StepResult
-fetch_and_execute m memory = cond (pc m % 2 == 0) (execute_decoded (fetched m memory) m memory) (stopped 18 m memory)
+fetch_and_execute m memory = cond (pc m % 2 == 0) (execute_decoded (fetched m memory) m memory) (stopped stop.OddPc m memory)
 
 -- check 1 comes first: a memory of any other size is refused, and nothing changes
 unfoldable pub step_of : Machine → List ℕ → StepResult
 step_of m memory =
-    cond (length memory == memory_bytes) (fetch_and_execute m memory) (step_result m memory (Refused (refusal check.MemorySize)))
+    cond (length memory == memory_bytes)
+    (fetch_and_execute m memory)
+    (step_result m memory (Refused (refusal check.MemorySize)))

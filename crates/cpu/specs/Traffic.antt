@@ -39,7 +39,7 @@ decoded_traffic None m = NoData
 abbrev pub when_completed : Outcome → Traffic → Traffic
 when_completed Completed t = t
 when_completed Halted t = NoData
-when_completed (Stopped number) t = NoData
+when_completed (Stopped why) t = NoData
 when_completed (Refused r) t = NoData
 
 -- what a step tells

@@ -12,4 +12,5 @@ mod outcome;
 pub use executor::fetch_and_execute;
 pub use held::Executed;
 pub use machine::Machine;
-pub use outcome::Outcome;
+pub use memory::Memory;
+pub use outcome::{Outcome, Stop};

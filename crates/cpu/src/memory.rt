@@ -1,17 +1,19 @@
-// Bytes of memory.
-ghost use Rattle.std.specs.Prelude.{◌≡◌, ◌<◌, length};
+// Bytes of memory. It has one for each address, so no access can be out of it.
+ghost use Rattle.std.specs.Prelude.{◌≡◌};
 ghost use Rattle.units.specs.Bytes.{byte_at, with_byte};
 
-pub(crate) fn load_byte(memory: &[u8], a: usize) -> u16
-    requires { a < length memory.now }
+use units::MEMORY_BYTES;
+
+pub type Memory = [u8; MEMORY_BYTES];
+
+pub(crate) fn load_byte(memory: &Memory, a: u16) -> u16
     ensures { result ≡ byte_at memory.now a }
 {
-    memory[a] as u16
+    memory[a as usize] as u16
 }
 
-pub(crate) fn store_byte(memory: &mut [u8], a: usize, x: u16)
-    requires { a < length memory.old }
+pub(crate) fn store_byte(memory: &mut Memory, a: u16, x: u16)
     ensures { memory.new ≡ with_byte memory.old a x }
 {
-    memory[a] = (x % 256) as u8;
+    memory[a as usize] = (x % 256) as u8;
 }

@@ -1,18 +1,36 @@
 // How a step ends.
+ghost use Rattle.std.specs.Prelude.{◌≡◌};
+ghost use Rattle.cpu.specs.Stop.{stop_number};
+
 use refusals::Refusal;
 
-// The numbers of the stops.
-pub const ODD_PC: u8 = 18;
+// Why a step stopped: the PC is odd, its halfword is no instruction, or LDR or
+// STR goes to an address that is no multiple of 4.
+#[derive(Clone, Copy, PartialEq, Eq, Debug)]
+pub enum Stop {
+    OddPc,
+    Undefined,
+    Misaligned,
+}
 
-pub const UNDEFINED: u8 = 19;
+// Its number in the papers.
+impl From<Stop> for u8 {
+    ghost from_gives = { λ s number. number ≡ stop_number s };
 
-pub const MISALIGNED: u8 = 20;
+    fn from(s: Stop) -> u8 {
+        match s {
+            Stop::OddPc => 18,
+            Stop::Undefined => 19,
+            Stop::Misaligned => 20,
+        }
+    }
+}
 
 // It completed, it met HALT, it stopped, or check 1 refused the memory.
-#[derive(Drop)]
+#[derive(Clone, Copy, PartialEq, Eq, Debug)]
 pub enum Outcome {
     Completed,
     Halted,
-    Stopped(u8),
+    Stopped(Stop),
     Refused(Refusal),
 }

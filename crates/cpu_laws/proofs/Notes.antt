@@ -28,7 +28,7 @@ note_kept s other =
         → (keeping o s.machine.note (next_state s).machine).note ≡ s.machine.note
     kept Completed other = refl
     kept Halted other = absurd (other refl)
-    kept (Stopped number) other = refl
+    kept (Stopped why) other = refl
     kept (Refused q) other = refl
 
 -- and so of a run
@@ -48,5 +48,5 @@ run_note_kept budget m memory other = left budget m memory ∙ kept (run_of budg
         → note_left o (low_byte (run_of budget m memory).state) m.note ≡ m.note
     kept run.Spent other = refl
     kept run.Halted other = absurd (other refl)
-    kept (run.Stopped number) other = refl
+    kept (run.Stopped why) other = refl
     kept (run.Refused q) other = refl

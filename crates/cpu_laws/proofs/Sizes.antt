@@ -1,4 +1,5 @@
 -- Sixteen registers stay sixteen and 16 bits wide, and memory keeps its size and its bytes.
+use Rattle.std.specs.Prelude.{Option, Some, None}
 use mathlib.Core.Bool.{cond}
 use mathlib.Core.List.{List, [], ◌∷◌}
 use mathlib.Core.Path.{◌≡◌, refl, sym, ◌∙◌}
@@ -21,6 +22,7 @@ use Rattle.cpu.specs.declared.outcome.Outcome.TheVariants.{Refused}
 use Rattle.cpu.specs.Machine.{reg, pc, flags, updated, advanced, written}
 use Rattle.alu.specs.Flags.{Flags}
 use Rattle.alu.specs.Alu.{negative, shifted_of, shift_of, condition_of}
+use Rattle.cpu.specs.declared.outcome.Stop.TheVariants as stop
 use Rattle.cpu.specs.Step.{State, StepResult, step_result, completed, stopped, effective_address, aligned, add_high_of}
 use Rattle.cpu.specs.Step.{add_pc_of, and_of, asr_of, branch_of, cmp_imm_of, cmp_of, cmp_high_of, eor_of, ldr_of}
 use Rattle.cpu.specs.Step.{ldrb_of, mov_imm_of}
@@ -31,7 +33,6 @@ use Rattle.runner.specs.Run.{state, next_state, state_after}
 use Rattle.isa_laws.proofs.Narrow.{Narrow, decoded_narrow}
 use Rattle.cpu_laws.specs.Sizes.{Row, Registers, Bytes, Sized, StatesSized}
 use Rattle.cpu.proofs.Endings.{cond_keeps}
-use Rattle.std.specs.Prelude.{Option, Some, None}
 
 -- a bound on every number stays where one below it is set
 set_below : (bound : ℕ) (xs : List ℕ) (i x : ℕ) → x < bound → ((j : ℕ) → get_or xs j 0 < bound)
@@ -111,12 +112,12 @@ module _ (m : Machine) (memory : List ℕ) (r : Registers m.regs) (b : Bytes mem
   execute_sized (MovHigh rs rd) n = wrote rd (reg m rs) _ (r.below rs)
   execute_sized (Str offset rb rd) n =
       let a = effective_address m rb (4 * offset) in
-      cond_keeps Kept (aligned a) _ (stopped 20 m memory)
+      cond_keeps Kept (aligned a) _ (stopped stop.Misaligned m memory)
       (went_on (with_halfword memory a (reg m rd)) (flags m) (halfword_sized memory a (reg m rd) b (r.below rd)))
       unchanged
   execute_sized (Ldr offset rb rd) n =
       let a = effective_address m rb (4 * offset) in
-      cond_keeps Kept (aligned a) _ (stopped 20 m memory)
+      cond_keeps Kept (aligned a) _ (stopped stop.Misaligned m memory)
       (wrote rd (halfword_at memory a) (flags m) (halfword_small memory a b))
       unchanged
   execute_sized (Strb offset rb rd) n =
@@ -145,7 +146,7 @@ module _ (m : Machine) (memory : List ℕ) (r : Registers m.regs) (b : Bytes mem
   result_sized =
       cond_keeps Kept (eqb (length memory) memory_bytes)
       (fetch_and_execute m memory) (step_result m memory (Refused (refusal check.MemorySize)))
-      (cond_keeps Kept (eqb (pc m % 2) 0) (execute_decoded (fetched m memory) m memory) (stopped 18 m memory)
+      (cond_keeps Kept (eqb (pc m % 2) 0) (execute_decoded (fetched m memory) m memory) (stopped stop.OddPc m memory)
       (decoded_sized (fetched m memory) refl) unchanged)
       unchanged
 

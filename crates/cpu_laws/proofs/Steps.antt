@@ -1,5 +1,6 @@
 -- A step that neither completes nor meets HALT leaves everything as it was; and what a step does where nothing stops
 -- it before the instruction.
+use Rattle.std.specs.Prelude.{Option}
 use mathlib.Core.List.{List}
 use mathlib.Core.Logic.{inl, inr, ⊎_elim}
 use mathlib.Core.Path.{◌≡◌, ap}
@@ -12,7 +13,6 @@ use Rattle.cpu.specs.Machine.{pc}
 use Rattle.cpu.specs.Step.{StepResult, execute_decoded, fetched, fetch_and_execute, step_of}
 use Rattle.cpu.proofs.Endings.{how_ends}
 use Rattle.cpu_laws.specs.Course.{StepWhole}
-use Rattle.std.specs.Prelude.{Option}
 use Rattle.isa.specs.declared.instruction.Instruction.{Instruction}
 
 pub step_whole : StepWhole

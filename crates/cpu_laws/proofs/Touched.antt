@@ -1,5 +1,6 @@
 -- An instruction that completes changes only what it says it wrote, and what it does hangs on nothing of memory but
 -- what it says it read. A step adds the halfword that it fetches.
+use Rattle.std.specs.Prelude.{Option, Some, None}
 use mathlib.Core.Bool.{Bool, true, false, cond, false≢true}
 use mathlib.Core.List.{List}
 use mathlib.Core.Logic.{◌⊎◌, inl, inr, ⊎_elim}
@@ -26,6 +27,7 @@ use Rattle.cpu.specs.declared.outcome.Outcome.TheVariants.{Refused}
 use Rattle.traffic.specs.declared.data.Traffic.{Traffic}
 use Rattle.traffic.specs.declared.data.Traffic.TheVariants.{NoData}
 use Rattle.cpu.specs.Machine.{reg, pc, flags, updated, advanced, written}
+use Rattle.cpu.specs.declared.outcome.Stop.TheVariants as stop
 use Rattle.cpu.specs.Step.{StepResult, step_result, completed, stopped, effective_address, aligned, execute_of}
 use Rattle.cpu.specs.Step.{execute_decoded, fetched, fetch_and_execute, step_of, ldr_of, ldrb_of, str_of, strb_of}
 use Rattle.traffic.specs.Data.{is_written}
@@ -34,17 +36,16 @@ use Rattle.cpu.proofs.Endings.{cond_keeps}
 use Rattle.cpu_laws.specs.Touched.{Touches, Reads, Writes, DataInMemory, Keeps, StepKeeps, Agrees, Alike}
 use Rattle.cpu_laws.specs.Touched.{StepAlike}
 use Rattle.cpu_laws.proofs.Lists.{set_here, set_alike}
-use Rattle.std.specs.Prelude.{Option, Some, None}
 
 -- a halfword is stored at a multiple of 4, or stop 20 comes first
 abbrev stored : Machine → ℕ → ℕ → Bool → List ℕ → StepResult
 stored m a x t bytes =
-    cond t (completed (updated m (advanced m.regs) (flags m)) (with_halfword bytes a x)) (stopped 20 m bytes)
+    cond t (completed (updated m (advanced m.regs) (flags m)) (with_halfword bytes a x)) (stopped stop.Misaligned m bytes)
 
 -- a halfword is loaded, or stop 20 comes first
 abbrev loaded : Machine → ℕ → ℕ → Bool → List ℕ → StepResult
 loaded m rd a t bytes =
-    cond t (completed (updated m (written m.regs rd (halfword_at bytes a)) (flags m)) bytes) (stopped 20 m bytes)
+    cond t (completed (updated m (written m.regs rd (halfword_at bytes a)) (flags m)) bytes) (stopped stop.Misaligned m bytes)
 
 -- ---- one memory
 
@@ -146,7 +147,7 @@ module _ (m : Machine) (memory : List ℕ) where
       let d = fetched m memory in
       cond_keeps (Tells d) (eqb (length memory) memory_bytes)
       (fetch_and_execute m memory) (step_result m memory (Refused (refusal check.MemorySize)))
-      (cond_keeps (Tells d) (eqb (pc m % 2) 0) (execute_decoded d m memory) (stopped 18 m memory)
+      (cond_keeps (Tells d) (eqb (pc m % 2) 0) (execute_decoded d m memory) (stopped stop.OddPc m memory)
       (decoded_tells d) quiet)
       quiet
 
@@ -309,7 +310,7 @@ module _ (m : Machine) (memory other : List ℕ) (agrees : Agrees m memory other
 
   -- a step from an even PC or an odd one
   abbrev by_place : Bool → List ℕ → StepResult
-  by_place t bytes = cond t (execute_decoded (fetched m bytes) m bytes) (stopped 18 m bytes)
+  by_place t bytes = cond t (execute_decoded (fetched m bytes) m bytes) (stopped stop.OddPc m bytes)
 
   fetched_alike : (t : Bool) → eqb (pc m % 2) 0 ≡ t → Agreed (by_place t memory)
       → Both (fetched m other) (by_place t memory) (by_place t other)

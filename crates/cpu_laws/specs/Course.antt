@@ -21,14 +21,14 @@ StepWhole =
 abbrev pub EndsAs : Outcome → RunOutcome → Type 0
 EndsAs Completed r = ⊥
 EndsAs Halted r = r ≡ run.Halted
-EndsAs (Stopped number) r = r ≡ run.Stopped number
+EndsAs (Stopped why) r = r ≡ run.Stopped why
 EndsAs (Refused q) r = r ≡ run.Refused q
 
 -- where a run leaves its last state if it ends so: HALT sets the note
 abbrev pub final_state : RunOutcome → State → State
 final_state run.Spent s = s
 final_state run.Halted s = halted_state s
-final_state (run.Stopped number) s = s
+final_state (run.Stopped why) s = s
 final_state (run.Refused q) s = s
 
 -- the course of a run from s: so many steps, each of which completes, lead to its last state. It ends where the

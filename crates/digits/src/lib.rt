@@ -3,4 +3,6 @@
 
 mod values;
 
-pub use values::{LARGEST, NO_DIGIT, digit_of, grow, last_digit, with_digit};
+pub use values::{
+    Hex, LARGEST, NumberError, digit_of, grow, halfword, last_digit, number, with_digit,
+};

@@ -1,5 +1,7 @@
 -- How a step or a run ended and what it touched (Change 2), as a number beside the state that it left.
 use Rattle.std.specs.Prelude.{List, ℕ, ◌+◌, ◌*◌}
+use Rattle.refusals.specs.Check.{check_number}
+use Rattle.cpu.specs.Stop.{stop_number}
 use Rattle.cpu.specs.Step.{State, StepResult}
 use Rattle.runner.specs.Run.{RunResult}
 use Rattle.cpu.specs.declared.machine.Machine.{Machine}
@@ -14,15 +16,15 @@ use Rattle.traffic.specs.Data.{address_touched, kind_touched}
 abbrev pub outcome_number : Outcome → ℕ
 outcome_number Completed = 0
 outcome_number Halted = 255
-outcome_number (Stopped number) = number
-outcome_number (Refused r) = r.number
+outcome_number (Stopped why) = stop_number why
+outcome_number (Refused r) = check_number r.check
 
 -- the same of a run, 0 where its budget is spent
 abbrev pub run_number : RunOutcome → ℕ
 run_number run.Spent = 0
 run_number run.Halted = 255
-run_number (run.Stopped number) = number
-run_number (run.Refused r) = r.number
+run_number (run.Stopped why) = stop_number why
+run_number (run.Refused r) = check_number r.check
 
 -- what was touched: its kind from bit 8 on, its address from bit 16 on. No data are 0 throughout
 abbrev pub traffic_number : Traffic → ℕ

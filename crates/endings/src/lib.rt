@@ -2,9 +2,10 @@
 // numbers, as the C face gives them out.
 #![tactic(auto)]
 
+mod number;
 mod run;
 mod step;
-mod touched;
 
-pub use run::{AfterRun, run_numbered};
-pub use step::{AfterStep, step_numbered};
+pub use number::After;
+pub use run::run_numbered;
+pub use step::step_numbered;

@@ -7,19 +7,21 @@ use super::format::{BLOCK_BYTES, BLOCK_HALFWORDS};
 use sums::add_to_sum;
 use units::halfword_at;
 
-// The bytes of block `k`.
-pub(crate) fn block_part(file: &[u8], k: usize) -> &[u8]
+// The bytes of a block.
+pub(crate) type Block = [u8; BLOCK_BYTES];
+
+// Block `k` of a file that has it whole.
+pub(crate) fn block_part(file: &[u8], k: usize) -> &Block
     requires { block_bytes * k + block_bytes ≤ length file.now }
-    ensures { (result.now ≡ block_of file.now k) × (length result.now ≡ block_bytes) }
+    ensures { result.now ≡ block_of file.now k }
 {
-    let start = BLOCK_BYTES * k;
-    let end = start + BLOCK_BYTES;
-    &file[start..end]
+    let (blocks, _) = file.as_chunks::<BLOCK_BYTES>();
+    &blocks[k]
 }
 
 // Halfword `j` of a block.
-pub(crate) fn field(block: &[u8], j: usize) -> u16
-    requires { (length block.now ≡ block_bytes) × (j < block_halfwords) }
+pub(crate) fn field(block: &Block, j: usize) -> u16
+    requires { j < block_halfwords }
     ensures { result ≡ halfword block.now j }
 {
     halfword_at(block, 2 * j)
@@ -27,14 +29,11 @@ pub(crate) fn field(block: &[u8], j: usize) -> u16
 
 // The sum of a block's halfwords, the last halfword first, as a driver delivers
 // them.
-pub(crate) fn block_sum(block: &[u8]) -> u16
-    requires { length block.now ≡ block_bytes }
+pub(crate) fn block_sum(block: &Block) -> u16
     ensures { result ≡ block_sum_of block.now }
 {
     let mut sum = 0;
-    let mut j = BLOCK_HALFWORDS;
-    while 0 < j {
-        j -= 1;
+    for j in (0..BLOCK_HALFWORDS).rev() {
         sum = add_to_sum(sum, field(block, j));
     }
     sum

@@ -7,6 +7,7 @@ use units::{InstructionIndex, halfword_at};
 
 // The halfword of instruction `i`, for a caller that knows that the file has it:
 // an accepted file has every instruction of its code.
+#[tactic(auto, unfolding(crate::specs::Code::code_at))]
 pub fn code_at(file: &[u8], i: InstructionIndex) -> u16
     requires { code_position i.0 + 2 ≤ length file.now }
     ensures { result ≡ code_at file.now i.0 }

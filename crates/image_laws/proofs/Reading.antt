@@ -14,29 +14,27 @@ use Rattle.image.specs.Format.{block_bytes}
 use Rattle.image.specs.Block.{blocks_in, block_of}
 use Rattle.image.specs.Check.{layout_of, check_of}
 use Rattle.reader.specs.Reader.{is_left, block_at, given_as, given_of, bytes_of, after_of, answer_of, next_of}
-use Rattle.reader.specs.Reader.{after_next}
+use Rattle.reader.specs.Reader.{Given, after_next}
 use Rattle.image.specs.declared.checker.Layout.{Layout}
 use Rattle.reader.specs.declared.reader.BlockReader.{BlockReader}
-use Rattle.reader.specs.declared.reader.Given.{Given}
-use Rattle.reader.specs.declared.reader.Given.TheVariants as given
 use Rattle.image.proofs.Blocks.{block_length}
 use Rattle.image.proofs.Valid.{valid_layout}
 use Rattle.image_laws.specs.Claims.{reader_after, ReaderGives, AcceptedGives, RefusedGives, NoneLeftAtEnd}
-use Rattle.std.specs.Prelude.{Result, Ok, Err}
+use Rattle.std.specs.Prelude.{Some, None, Result, Ok, Err}
 
 module _ (file : List ℕ) where
   module _ (said : Layout) (valid : check_of file ≡ Ok said) where
-    given_there : (n : ℕ) → given_of file n ≡ block_at file n
+    given_there : (n : ℕ) → given_of file n ≡ Ok (block_at file n)
     unfolding given_of
     given_there n = ap (given_as file n) valid
 
-    block_there : (n : ℕ) → n < blocks_in file → given_of file n ≡ given.Block (block_bytes * n)
+    block_there : (n : ℕ) → n < blocks_in file → given_of file n ≡ Ok (Some (block_bytes * n))
     unfolding block_at
-    block_there n h = given_there n ∙ simp (lt-ltb n (blocks_in file) h)
+    block_there n h = given_there n ∙ ap Ok (simp (lt-ltb n (blocks_in file) h))
 
-    none_left : (n : ℕ) → blocks_in file ≤ n → given_of file n ≡ given.NoneLeft
+    none_left : (n : ℕ) → blocks_in file ≤ n → given_of file n ≡ Ok None
     unfolding block_at
-    none_left n h = given_there n ∙ simp (le-ltb n (blocks_in file) h)
+    none_left n h = given_there n ∙ ap Ok (simp (le-ltb n (blocks_in file) h))
 
     -- the bytes from its start on are the block
     bytes_there : (n : ℕ) → n < blocks_in file → bytes_of file (given_of file n) ≡ block_of file n
@@ -50,19 +48,19 @@ module _ (file : List ℕ) where
     stays n h = ap (after_of n) (none_left n h)
 
   module _ (r : Refusal) (refused : check_of file ≡ Err r) where
-    refusal_there : (n : ℕ) → given_of file n ≡ given.Refused r
+    refusal_there : (n : ℕ) → given_of file n ≡ Err r
     unfolding given_of
     refusal_there n = ap (given_as file n) refused
 
   past_last : (n : ℕ) (t : Bool) → is_left file n ≡ t
-      → cond t (given.Block (block_bytes * n)) given.NoneLeft ≡ given.NoneLeft → blocks_in file ≤ n
+      → cond t (Some (block_bytes * n)) None ≡ None → blocks_in file ≤ n
   past_last n true e h = clash (cc)
   past_last n false e h = ltb-false n (blocks_in file) e
 
-  at_end : (n : ℕ) (a : Result Layout Refusal) → check_of file ≡ a → given_as file n a ≡ given.NoneLeft
+  at_end : (n : ℕ) (a : Result Layout Refusal) → check_of file ≡ a → given_as file n a ≡ Ok None
       → (check_of file ≡ Ok (layout_of file)) × (blocks_in file ≤ n)
   unfolding block_at
-  at_end n (Ok said) e h = (e ∙ ap Ok (valid_layout file said e), past_last n (is_left file n) refl h)
+  at_end n (Ok said) e h = (e ∙ ap Ok (valid_layout file said e), past_last n (is_left file n) refl (cc))
   at_end n (Err r) e h = clash (cc)
 
 -- the reader of a file that comes to block k next

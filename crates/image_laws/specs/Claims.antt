@@ -1,5 +1,5 @@
 -- What is claimed of images as a whole ("Image blocks", "The questions", "Bench table"; Change 3).
-use Rattle.std.specs.Prelude.{◌≡◌, List, [], ◌∷◌, ℕ, zero, suc, ◌-◌, ◌*◌, ◌≤◌, ◌<◌, eqb, length, get_or, Ok, Err}
+use Rattle.std.specs.Prelude.{◌≡◌, List, [], ◌∷◌, ℕ, zero, suc, ◌-◌, ◌*◌, ◌≤◌, ◌<◌, eqb, length, get_or, Some, None, Ok, Err}
 use Rattle.std.specs.Borrow.{Bor}
 use Rattle.units.specs.Address.{wrap}
 use Rattle.refusals.specs.declared.refusal.Refusal.{Refusal}
@@ -12,7 +12,6 @@ use Rattle.reader.specs.Reader.{given_of, bytes_of, open_of, answer_of, next_of,
 use Rattle.packer.specs.Pack.{image_of, pack_of, output_of}
 use Rattle.image.specs.declared.checker.Layout.{Layout}
 use Rattle.reader.specs.declared.reader.BlockReader.{BlockReader}
-use Rattle.reader.specs.declared.reader.Given.TheVariants as given
 
 abbrev pub layout : ℕ → ℕ → ℕ → Layout
 layout c w l = record { code_bytes = c; window_start = w; window_length = l }
@@ -20,7 +19,7 @@ layout c w l = record { code_bytes = c; window_start = w; window_length = l }
 -- what the packer makes, the check accepts, with the same c, w, l and code
 abbrev pub PackThenCheck : Type 0
 PackThenCheck =
-    (code : List ℕ) (w l : ℕ) (out : List ℕ) → pack_of code w l (length out) ≡ (Ok tt)
+    (code : List ℕ) (w l : ℕ) (out : List ℕ) → pack_of code w l (length out) ≡ Ok tt
     → (check_of (output_of code w l out) ≡ Ok (layout (2 * length code) w l))
     × (code_of (output_of code w l out) ≡ code)
 
@@ -34,7 +33,7 @@ abbrev pub CheckThenPack : Type 0
 CheckThenPack =
     (file : List ℕ) (c w l : ℕ) (out : List ℕ)
     → Bytes file → check_of file ≡ Ok (layout c w l) → length out ≡ length file
-    → (pack_of (code_of file) w l (length out) ≡ (Ok tt)) × (output_of (code_of file) w l out ≡ file)
+    → (pack_of (code_of file) w l (length out) ≡ Ok tt) × (output_of (code_of file) w l out ≡ file)
 
 -- calls for halfwords 255 down to n of a block come to the sum of halfwords n to 255 modulo 65,536
 abbrev pub BackwardSum : Type 0
@@ -65,7 +64,7 @@ ReaderGives =
 -- block n is given: where it starts, its own bytes, and that these are 512
 abbrev pub GivesBlock : List ℕ → ℕ → Type 0
 GivesBlock file n =
-    (given_of file n ≡ given.Block (block_bytes * n))
+    (given_of file n ≡ Ok (Some (block_bytes * n)))
     × (bytes_of file (given_of file n) ≡ block_of file n)
     × (length (block_of file n) ≡ block_bytes)
 
@@ -73,18 +72,18 @@ GivesBlock file n =
 abbrev pub AcceptedGives : Type 0
 AcceptedGives =
     (file : List ℕ) (said : Layout) → check_of file ≡ Ok said → (n : ℕ)
-    → (n < blocks_in file → GivesBlock file n) × (blocks_in file ≤ n → given_of file n ≡ given.NoneLeft)
+    → (n < blocks_in file → GivesBlock file n) × (blocks_in file ≤ n → given_of file n ≡ Ok None)
 
 -- a refused file answers its own refusal at every call, and gives no byte
 abbrev pub RefusedGives : Type 0
 RefusedGives =
     (file : List ℕ) (r : Refusal) → check_of file ≡ Err r → (n : ℕ)
-    → (given_of file n ≡ given.Refused r) × (bytes_of file (given_of file n) ≡ [])
+    → (given_of file n ≡ Err r) × (bytes_of file (given_of file n) ≡ [])
 
 -- none left is said only of an accepted file, and only after its last block
 abbrev pub NoneLeftAtEnd : Type 0
 NoneLeftAtEnd =
-    (file : List ℕ) (n : ℕ) → given_of file n ≡ given.NoneLeft
+    (file : List ℕ) (n : ℕ) → given_of file n ≡ Ok None
     → (check_of file ≡ Ok (layout_of file)) × (blocks_in file ≤ n)
 
 -- the bench table's code P, and what stands in its block

@@ -32,13 +32,6 @@ memory_joined op offset rb rd o p q r =
     let whole = low 3 rd middle (omega arith) (omega arith) in
     omega (arith, top 13 0x6000 whole (omega arith) (omega arith))
 
--- four bits and a byte under a mark: ADD Rd, PC and branches
-pub byte_joined : (mark a b : ℕ) → mark % 0x1000 ≡ 0 → a < 16 → b < 256
-    → bit_or (bit_or (shifted a 8) b) mark ≡ mark + a * 0x100 + b
-byte_joined mark a b m p q =
-    let whole = low 8 {x = shifted a 8} b refl (omega arith) (omega arith) in
-    omega (arith, top 12 mark whole (omega arith) m)
-
 -- the sum, with a variable for each quotient and remainder: `omega` relates few quotients at once
 total : (a b s m op d8 d r8 r : ℕ) → a ≡ op * 256 → b ≡ d8 * 128 → s ≡ r8 * 64 + r * 8 → m ≡ d
     → a + b + s + m + 0x4400 ≡ 0x4400 + op * 256 + d8 * 128 + r8 * 64 + r * 8 + d

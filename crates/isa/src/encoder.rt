@@ -1,47 +1,46 @@
 // From an instruction to its halfword. Each format is put together in one
 // function, which refuses a field that its bits can't hold.
-ghost use Rattle.std.specs.Prelude.{◌≡◌, ◌<◌};
-ghost use Rattle.isa.specs.Encode.{encode_of, imm_form, alu_form, high_form};
+ghost use Rattle.std.specs.Prelude.{◌≡◌, ◌<◌, ltb, Ok};
+ghost use Rattle.isa.specs.Encode.{given, encode_of, imm_form, alu_form, high_form};
 ghost use Rattle.isa.specs.Encode.{memory_form, add_pc_form, branch_form, halt_form};
 
 use super::instruction::Instruction;
 use refusals::{Check, Refusal};
 
+// A field's value, if it is below its limit.
+fn below(value: u8, limit: u8) -> Result<u16, Refusal>
+    ensures { result ≡ given (ltb value limit) (Ok value) }
+{
+    if value < limit {
+        Ok(value as u16)
+    } else {
+        Err(Refusal::new(Check::Fields))
+    }
+}
+
 fn imm_form(op: u16, rd: u8, imm: u8) -> Result<u16, Refusal>
     requires { op < 4 }
     ensures { result ≡ imm_form op rd imm }
 {
-    if rd >= 8 {
-        return Err(Refusal::new(Check::Fields));
-    }
-    Ok((op << 11) | ((rd as u16) << 8) | (imm as u16) | 0x2000)
+    let d = below(rd, 8)?;
+    Ok((op << 11) | (d << 8) | (imm as u16) | 0x2000)
 }
 
 fn alu_form(op: u16, rs: u8, rd: u8) -> Result<u16, Refusal>
     requires { op < 16 }
     ensures { result ≡ alu_form op rs rd }
 {
-    if rs >= 8 {
-        return Err(Refusal::new(Check::Fields));
-    }
-    if rd >= 8 {
-        return Err(Refusal::new(Check::Fields));
-    }
-    Ok((op << 6) | ((rs as u16) << 3) | (rd as u16) | 0x4000)
+    let s = below(rs, 8)?;
+    let d = below(rd, 8)?;
+    Ok((op << 6) | (s << 3) | d | 0x4000)
 }
 
 fn high_form(op: u16, rs: u8, rd: u8) -> Result<u16, Refusal>
     requires { op < 4 }
     ensures { result ≡ high_form op rs rd }
 {
-    if rs >= 16 {
-        return Err(Refusal::new(Check::Fields));
-    }
-    if rd >= 16 {
-        return Err(Refusal::new(Check::Fields));
-    }
-    let s = rs as u16;
-    let d = rd as u16;
+    let s = below(rs, 16)?;
+    let d = below(rd, 16)?;
     Ok((op << 8) | ((d >> 3) << 7) | (s << 3) | (d & 7) | 0x4400)
 }
 
@@ -49,10 +48,8 @@ fn high_form(op: u16, rs: u8, rd: u8) -> Result<u16, Refusal>
 fn cmp_high_form(rs: u8, rd: u8) -> Result<u16, Refusal>
     ensures { result ≡ encode_of (Instruction.CmpHigh rs rd) }
 {
-    if rs < 8 {
-        if rd < 8 {
-            return Err(Refusal::new(Check::Fields));
-        }
+    if rs < 8 && rd < 8 {
+        return Err(Refusal::new(Check::Fields));
     }
     high_form(1, rs, rd)
 }
@@ -61,36 +58,24 @@ fn memory_form(op: u16, offset: u8, rb: u8, rd: u8) -> Result<u16, Refusal>
     requires { op < 4 }
     ensures { result ≡ memory_form op offset rb rd }
 {
-    if offset >= 32 {
-        return Err(Refusal::new(Check::Fields));
-    }
-    if rb >= 8 {
-        return Err(Refusal::new(Check::Fields));
-    }
-    if rd >= 8 {
-        return Err(Refusal::new(Check::Fields));
-    }
-    Ok(
-        (op << 11) | ((offset as u16) << 6) | ((rb as u16) << 3) | (rd as u16) | 0x6000,
-    )
+    let o = below(offset, 32)?;
+    let b = below(rb, 8)?;
+    let d = below(rd, 8)?;
+    Ok((op << 11) | (o << 6) | (b << 3) | d | 0x6000)
 }
 
 fn add_pc_form(rd: u8, imm: u8) -> Result<u16, Refusal>
     ensures { result ≡ add_pc_form rd imm }
 {
-    if rd >= 8 {
-        return Err(Refusal::new(Check::Fields));
-    }
-    Ok(((rd as u16) << 8) | (imm as u16) | 0xa000)
+    let d = below(rd, 8)?;
+    Ok((d << 8) | (imm as u16) | 0xa000)
 }
 
 fn branch_form(cond: u8, offset: u8) -> Result<u16, Refusal>
     ensures { result ≡ branch_form cond offset }
 {
-    if cond >= 14 {
-        return Err(Refusal::new(Check::Fields));
-    }
-    Ok(((cond as u16) << 8) | (offset as u16) | 0xd000)
+    let c = below(cond, 14)?;
+    Ok((c << 8) | (offset as u16) | 0xd000)
 }
 
 fn halt_form(note: u8) -> Result<u16, Refusal>

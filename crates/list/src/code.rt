@@ -1,26 +1,18 @@
 // The code of an image as halfwords.
-ghost use Rattle.streams.specs.Counts.{IsPrefixLen};
-
-use image::{BLOCK_BYTES, BLOCK_CODE, HEADER_BYTES};
+use arrayvec::ArrayVec;
+use image::{BLOCK_BYTES, BLOCK_CODE, HEADER_BYTES, MOST_CODE};
 use units::{ByteAddress, InstructionIndex};
 
-// Copies the code of a file that says that it has so many bytes, and answers how
-// many halfwords that are. What the file doesn't have is left out.
-pub(crate) fn read_code(file: &[u8], bytes: u16, code: &mut [u16]) -> usize
-    ensures { IsPrefixLen result code.new }
-{
-    let count = units::instruction_index(ByteAddress(bytes)).0 as usize;
-    let mut n = 0;
-    while n < count {
-        if n >= code.len() {
-            return n;
-        }
-        let start = n / BLOCK_CODE * BLOCK_BYTES + HEADER_BYTES + 2 * (n % BLOCK_CODE);
-        if start + 2 > file.len() {
-            return n;
-        }
-        code[n] = image::code_at(file, InstructionIndex((n % 65536) as u16));
-        n += 1;
+// The code of a file that says that it has so many bytes. What the file doesn't have
+// is left out.
+pub(crate) fn read_code(file: &[u8], bytes: u16) -> ArrayVec<u16, MOST_CODE> {
+    let count = usize::from(InstructionIndex::from(ByteAddress(bytes)).0);
+    let halfwords = file.chunks_exact(BLOCK_BYTES).flat_map(|block| block[HEADER_BYTES..]
+        .chunks_exact(2)
+        .take(BLOCK_CODE));
+    let mut code = ArrayVec::new();
+    for h in halfwords.take(count) {
+        let _ = code.try_push(u16::from_le_bytes([h[0], h[1]]));
     }
-    n
+    code
 }

@@ -6,10 +6,7 @@
 mod code;
 mod complaints;
 
-ghost use Rattle.streams.specs.Counts.{IsPrefixLen};
-
-use image::{Checked, Layout};
-use lister::Listed;
+use refusals::Refusal;
 use std::io;
 
 // One byte more than the longest image, so that a longer file is seen to be
@@ -19,64 +16,25 @@ const MOST: usize = image::MOST_BYTES + 1;
 // The longest listing: 19 bytes for an instruction and 8 for its label.
 const MOST_TEXT: usize = 27 * image::MOST_CODE;
 
-// A number of bytes, as many as there are at most.
-fn within(n: usize, room: &[u8]) -> usize
-    ensures { IsPrefixLen result room.now }
-{
-    if n < room.len() { n } else { room.len() }
-}
-
-fn write_text(out: &impl Print, text: &[u8], length: usize) -> io::Result<()> {
-    let n = within(length, text);
-    out.write_all(&text[..n])
-}
-
-// Writes the text that is made in the room.
-fn list_within(
-    out: &impl Print,
-    err: &impl Print,
-    code: &[u16],
-    room: &mut [u8],
-) -> io::Result<()> {
-    match lister::list(code, room) {
-        Listed::Done(n) => write_text(out, room, n),
-        Listed::Refused(r) => {
-            complaints::say_refusal(err, r);
-            Ok(())
-        }
-    }
-}
-
-fn write_listing(out: &impl Print, err: &impl Print, code: &[u16]) -> io::Result<()> {
-    let mut text = [0u8; MOST_TEXT];
-    list_within(out, err, code, &mut text)
-}
-
-fn list_code(out: &impl Print, err: &impl Print, file: &[u8], layout: Layout) -> io::Result<()> {
-    let mut halfwords = [0u16; image::MOST_CODE];
-    let n = code::read_code(file, layout.code_bytes, &mut halfwords);
-    write_listing(out, err, &halfwords[..n])
+// Writes the listing of a file into the room, and answers its length.
+fn list_into(file: &[u8], room: &mut [u8]) -> Result<usize, Refusal> {
+    let layout = image::check(file)?;
+    let code = code::read_code(file, layout.code_bytes);
+    lister::list(code.as_slice(), room)
 }
 
 // Fails where standard output does.
-fn list(out: &impl Print, err: &impl Print, file: &[u8]) -> io::Result<()> {
-    match image::check(file) {
-        Checked::Valid(layout) => list_code(out, err, file, layout),
-        Checked::Refused(r) => {
-            complaints::say_refusal(err, r);
+fn list(rt: &(impl Print + Eprint), file: &[u8]) -> io::Result<()> {
+    let mut text = [0u8; MOST_TEXT];
+    match list_into(file, &mut text) {
+        Ok(n) => rt.write_all(&text[..n.min(MOST_TEXT)]),
+        Err(refusal) => {
+            complaints::say_refusal(rt, refusal);
             Ok(())
         }
     }
 }
 
 fn main(rt: HostRuntime) {
-    let mut buffer = [0u8; MOST];
-    match streams::read_full(&rt, &mut buffer) {
-        Ok(n) => {
-            if let Err(error) = list(&rt, &rt.stderr(), &buffer[..n]) {
-                streams::say_failure(&rt, "list: standard output", error);
-            }
-        }
-        Err(error) => streams::say_failure(&rt, "list: standard input", error),
-    }
+    streams::answer_input(&rt, "list", &mut [0u8; MOST], |file| list(&rt, file));
 }

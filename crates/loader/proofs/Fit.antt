@@ -3,7 +3,7 @@ use mathlib.Core.List.{List}
 use mathlib.Core.Path.{◌≡◌, ◌∙◌}
 use Prim.Native.Nat.{ℕ, ◌+◌, ◌*◌, ◌≤◌, ◌<◌}
 use native.Mathlib.Omega.{arith}
-use lib.ListN.{length}
+use lib.ListN.{length, get_or}
 use Rattle.units.specs.Address.{instruction_index_of, memory_bytes}
 use Rattle.units.specs.declared.address.InstructionIndex.{InstructionIndex}
 use Rattle.image.proofs.Valid.{code_halfword_is, valid_window, valid_code_bytes, code_in_file}
@@ -11,12 +11,12 @@ use Rattle.image.specs.Check.{check_of}
 use Rattle.image.specs.Code.{code_position, code_of}
 use Rattle.image.specs.declared.checker.Layout.{Layout}
 use Rattle.verifier.specs.Verify.{verify_of}
+use Rattle.std.specs.Prelude.{Ok}
 use Rattle.verifier.proofs.Accepted.{count_is}
 use Rattle.verifier.proofs.Fit.{fit_checked}
-use Rattle.loader.specs.Copy.{with_code, cleared}
+use Rattle.loader.specs.Copy.{IsCopied, cleared}
 use Rattle.loader.specs.Load.{loaded_memory}
 use Rattle.loader.proofs.Placed.{load_is}
-use Rattle.std.specs.Prelude.{Ok}
 
 module _ (file : List ℕ) (layout : Layout) (fit : verify_of file ≡ Ok layout) where
   valid : check_of file ≡ Ok layout
@@ -40,11 +40,11 @@ module _ (file : List ℕ) (layout : Layout) (fit : verify_of file ≡ Ok layout
     code_there i h = code_in_file file layout valid i (omega (arith, count))
 
     -- the code is copied, then the window is cleared
-    pub placed : (memory copied after : List ℕ) → length memory ≡ memory_bytes → copied ≡ with_code file n.0 memory
+    pub placed : ((p : ℕ) → get_or file p 0 < 256) → (memory copied after : List ℕ) → length memory ≡ memory_bytes
+        → IsCopied file n.0 memory copied
         → after ≡ cleared layout.window_start (layout.window_start + layout.window_length) copied
         → after ≡ loaded_memory file layout memory
-    placed memory copied after whole code window =
+    placed byte memory copied after whole code window =
         window
-        ∙ rw code
-        (load_is file layout memory n.0 bytes whole code_first window_fits
-        (λ i h. code_halfword_is file i (omega (arith, count))))
+        ∙ load_is file layout memory copied n.0 byte code bytes whole code_first window_fits
+        (λ i h. code_halfword_is file i (omega (arith, count)))

@@ -26,13 +26,9 @@ loaded_byte_of file layout memory a =
 abbrev pub loaded_memory : List ℕ → Layout → List ℕ → List ℕ
 loaded_memory file layout memory = tabulate (loaded_byte_of file layout memory) memory_bytes
 
-abbrev pub loaded_as : Result Layout Refusal → Result Layout Refusal
-loaded_as (Ok layout) = Ok layout
-loaded_as (Err r) = Err r
-
 -- check 1, of the memory; then checks 2 to 14, of the file
 unfoldable pub load_of : List ℕ → List ℕ → Result Layout Refusal
-load_of file memory = cond (eqb (length memory) memory_bytes) (loaded_as (verify_of file)) (Err (refusal check.MemorySize))
+load_of file memory = cond (eqb (length memory) memory_bytes) (verify_of file) (Err (refusal check.MemorySize))
 
 -- the memory afterwards; a refusal leaves it alone
 abbrev pub memory_as : Result Layout Refusal → List ℕ → List ℕ → List ℕ

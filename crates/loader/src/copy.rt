@@ -1,51 +1,38 @@
 // What a load does to memory.
-ghost use Rattle.std.specs.Prelude.{◌≡◌, ℕ, ◌+◌, ◌*◌, ◌≤◌, ◌<◌, min, length, replicate};
+ghost use Rattle.std.specs.Prelude.{◌≡◌, ℕ, ◌+◌, ◌*◌, ◌≤◌, ◌<◌, length, replicate};
 ghost use Rattle.units.specs.Address.{memory_bytes};
 ghost use Rattle.image.specs.Code.{code_position};
-ghost use Rattle.image.specs.Format.{block_code};
-ghost use Rattle.loader.specs.Copy.{with_code, with_block, cleared};
+ghost use Rattle.image.specs.Format.{block_bytes, block_code, header_bytes};
+ghost use Rattle.loader.specs.Copy.{IsCopied, code_part, with_part, cleared};
 
 use image::{BLOCK_BYTES, BLOCK_CODE, HEADER_BYTES};
-use units::{ByteAddress, InstructionIndex, halfword_at, put_halfword};
+use units::{ByteAddress, InstructionIndex};
 
-// How many of `left` instructions the next block holds.
-fn in_block(left: usize) -> usize
-    ensures { result ≡ min block_code left }
-{
-    if left < BLOCK_CODE { left } else { BLOCK_CODE }
-}
-
-// Copies the first `n` instructions of block `k` to where they go. They lie in
-// one row, in the file and in memory, which the compiler copies many at a time.
+// Copies the first `n` instructions of block `k` to where they go: they lie in
+// one row, in the file and in memory.
 fn copy_block(file: &[u8], memory: &mut [u8], k: usize, n: usize)
-    requires n_le_block_code { (n ≤ block_code) × (2 * (block_code * k + n) ≤ memory_bytes)
-        × (length memory.old ≡ memory_bytes) }
-    requires by_index { (i : ℕ) → i < block_code * k + n → code_position i + 2 ≤ length file.now }
-    ensures { memory.new ≡ with_block file.now k n memory.old }
+    requires in_memory { 2 * (block_code * k + n) ≤ memory_bytes }
+    requires memory_len { length memory.old ≡ memory_bytes }
+    requires first { block_code * k < 65536 }
+    requires in_file { block_bytes * k + header_bytes + 2 * n ≤ length file.now }
+    ensures { memory.new ≡ with_part (2 * (block_code * k)) (code_part file.now k n) memory.old }
 {
     let first = ByteAddress::from(InstructionIndex((BLOCK_CODE * k) as u16));
     let from = BLOCK_BYTES * k + HEADER_BYTES;
     let to = first.0 as usize;
-    let mut i = 0;
-    while i < n {
-        let h = halfword_at(file, from + 2 * i);
-        put_halfword(memory, to + 2 * i, h);
-        i += 1;
-    }
+    memory[to..to + 2 * n].copy_from_slice(&file[from..from + 2 * n]);
 }
 
 // Copies the first `count` instructions of a file to address 0, block by block.
 pub(crate) fn copy_code(file: &[u8], memory: &mut [u8], count: InstructionIndex)
     requires count_bound { (2 * count.0 ≤ memory_bytes) × (length memory.old ≡ memory_bytes) }
     requires by_index { (i : ℕ) → i < count.0 → code_position i + 2 ≤ length file.now }
-    ensures { memory.new ≡ with_code file.now count.0 memory.old }
+    ensures { IsCopied file.now count.0 memory.old memory.new }
 {
     let all = count.0 as usize;
-    let mut k = 0;
-    while BLOCK_CODE * k < all {
-        let n = in_block(all - BLOCK_CODE * k);
+    for k in 0..all.div_ceil(BLOCK_CODE) {
+        let n = BLOCK_CODE.min(all - BLOCK_CODE * k);
         copy_block(file, memory, k, n);
-        k += 1;
     }
 }
 
@@ -53,11 +40,7 @@ pub(crate) fn copy_code(file: &[u8], memory: &mut [u8], count: InstructionIndex)
 pub(crate) fn clear(part: &mut [u8])
     ensures { part.new ≡ replicate (length part.old) 0 }
 {
-    let mut i = 0;
-    while i < part.len() {
-        part[i] = 0;
-        i += 1;
-    }
+    part.fill(0);
 }
 
 // Clears the window: its part of memory is lent on.

@@ -7,7 +7,7 @@ ghost use Rattle.loader.specs.Load.{load_of, memory_after_load, loaded_memory};
 use super::copy::{clear_window, copy_code};
 use image::Layout;
 use refusals::{Check, Refusal};
-use units::{ByteAddress, InstructionIndex, MEMORY_BYTES};
+use units::MEMORY_BYTES;
 
 // Puts the code of a fit file to address 0 and clears its window.
 fn place(file: &[u8], layout: Layout, memory: &mut [u8])
@@ -15,10 +15,9 @@ fn place(file: &[u8], layout: Layout, memory: &mut [u8])
     requires memory_len { length memory.old ≡ memory_bytes }
     ensures { memory.new ≡ loaded_memory file.now layout memory.old }
 {
+    copy_code(file, memory, layout.count());
     let start = layout.window_start as usize;
     let end = start + layout.window_length as usize;
-    let count = InstructionIndex::from(ByteAddress(layout.code_bytes));
-    copy_code(file, memory, count);
     clear_window(memory, start, end);
 }
 

@@ -7,22 +7,19 @@
 
 mod arguments;
 mod complaints;
-mod console;
-mod input;
+mod halfwords;
 mod maker;
 mod scanner;
 mod source;
 
-use arguments::Window;
+use arguments::Program;
 
 fn main(rt: HostRuntime) {
-    let err = rt.stderr();
-    let window = arguments::read_window(&rt, &err);
-    if let Window::At(w, l) = window {
-        if arguments::is_source(&rt) {
-            source::make(&rt, &err, w, l);
-        } else {
-            maker::make(&rt, &err, w, l);
+    match arguments::read(&rt) {
+        Ok((Program::Pack, window)) => halfwords::make(&rt, window),
+        Ok((Program::Assemble, window)) => source::make(&rt, window),
+        Err(error) => {
+            let _ = eprintln!(rt; "{error}");
         }
     }
 }

@@ -1,240 +1,157 @@
 // Halfwords out of text, byte by byte.
-ghost use Rattle.std.specs.Prelude.{◌≡◌};
-ghost use Rattle.pack.specs.Scanning.{Kept, KeptIn};
+use arrayvec::ArrayVec;
+use digits::{digit_of, with_digit};
+use std::fmt;
 
-use digits::{NO_DIGIT, digit_of, with_digit};
+// One more than an image holds, so that the packer sees that there are too many.
+const ROOM: usize = image::MOST_CODE + 1;
 
 // A halfword has at most so many digits.
 const MOST_DIGITS: u8 = 4;
 
-// How the text stands: there may be more of it, it has ended well, it could not
-// be read, or why it is none of halfwords.
+// A byte of the text: the character, or a number where it has none of its own.
 #[derive(Clone, Copy)]
-pub enum Status {
-    Reading,
-    Ended,
-    Unread,
+pub struct Byte(pub u8);
+
+impl fmt::Display for Byte {
+    fn fmt<W: fmt::Write>(&self, f: &mut fmt::Formatter<W>) -> fmt::Result {
+        let b = self.0;
+        if b.is_ascii_graphic() {
+            write!(f, "'{}'", char::from(b))
+        } else {
+            write!(f, "byte {b:#04X}")
+        }
+    }
+}
+
+// Why a text is none of halfwords.
+#[derive(Clone, Copy)]
+pub enum ScanError {
     NotHex(u8),
     TooLong,
     NoDigits,
 }
 
-// What is known after some of the text: how it stands, the line, and how many
-// halfwords are kept; of the halfword that has begun its digits, whether `0x` is
-// in front, and its value so far; whether a comment has begun, and whether the
-// byte before was a carriage return.
-#[derive(Clone, Copy)]
-pub struct Scan {
-    pub status: Status,
-    pub line: u64,
-    pub count: usize,
-    pub digits: u8,
-    pub prefixed: bool,
-    pub value: u16,
-    pub comment: bool,
-    pub returned: bool,
-}
-
-// Before the text.
-pub(crate) fn start() -> Scan
-    ensures { result.count ≡ 0 }
-{
-    Scan {
-        status: Status::Reading,
-        line: 1,
-        count: 0,
-        digits: 0,
-        prefixed: false,
-        value: 0,
-        comment: false,
-        returned: false,
-    }
-}
-
-pub(crate) fn is_reading(scan: Scan) -> bool {
-    let status = scan.status;
-    match status {
-        Status::Reading => true,
-        Status::Ended => false,
-        Status::Unread => false,
-        Status::NotHex(_) => false,
-        Status::TooLong => false,
-        Status::NoDigits => false,
-    }
-}
-
-pub(crate) fn with_status(scan: Scan, status: Status) -> Scan
-    ensures { result.count ≡ scan.count }
-{
-    Scan {
-        status,
-        line: scan.line,
-        count: scan.count,
-        digits: scan.digits,
-        prefixed: scan.prefixed,
-        value: scan.value,
-        comment: scan.comment,
-        returned: scan.returned,
-    }
-}
-
-// Keeps the halfword that has ended. What there is no room for is left out: it is
-// too much already.
-fn keep(scan: Scan, code: &mut [u16]) -> Scan
-    requires { Kept scan code.old }
-    ensures { KeptIn code.old result code.new }
-{
-    let mut next = scan;
-    let n = scan.count;
-    if n < code.len() {
-        code[n] = scan.value;
-        next.count = n + 1;
-    }
-    next.digits = 0;
-    next.prefixed = false;
-    next.value = 0;
-    next
-}
-
-// The end of a halfword, if one has begun.
-fn end_word(scan: Scan, code: &mut [u16]) -> Scan
-    requires { Kept scan code.old }
-    ensures { KeptIn code.old result code.new }
-{
-    if scan.digits > 0 {
-        return keep(scan, code);
-    }
-    if scan.prefixed {
-        return with_status(scan, Status::NoDigits);
-    }
-    scan
-}
-
-fn next_line(line: u64) -> u64 {
-    if line < u64::MAX { line + 1 } else { line }
-}
-
-// The end of a line, and of its comment. A carriage return with a line feed
-// behind it ends one line.
-fn end_line(scan: Scan, b: u8) -> Scan
-    ensures { result.count ≡ scan.count }
-{
-    let mut next = scan;
-    next.comment = false;
-    if !(b == b'\n' && scan.returned) {
-        if is_reading(scan) {
-            next.line = next_line(scan.line);
+impl fmt::Display for ScanError {
+    fn fmt<W: fmt::Write>(&self, f: &mut fmt::Formatter<W>) -> fmt::Result {
+        match self {
+            ScanError::NotHex(b) => write!(f, "{} is no hexadecimal digit", Byte(*b)),
+            ScanError::TooLong => write!(f, "a halfword has at most four digits"),
+            ScanError::NoDigits => write!(f, "no digit stands behind 0x"),
         }
     }
-    next
 }
 
-fn open_comment(scan: Scan) -> Scan
-    ensures { result.count ≡ scan.count }
-{
-    let mut next = scan;
-    next.comment = true;
-    next
+// A halfword so far: how many digits it has, whether `0x` is in front, and its value.
+// None has begun where it has neither.
+#[derive(Clone, Copy, Default)]
+pub struct Word {
+    digits: u8,
+    prefixed: bool,
+    value: u16,
 }
 
-// Whether a byte is the `x` of `0x`, in front of a halfword.
-fn is_prefix(scan: Scan, b: u8) -> bool {
-    if scan.prefixed {
-        return false;
+impl Word {
+    // Whether a byte is the `x` of `0x`, in front of a halfword.
+    fn is_prefix(self, b: u8) -> bool {
+        matches!(b, b'x' | b'X') && !self.prefixed && self.digits == 1 && self.value == 0
     }
-    if b != b'x' && b != b'X' {
-        return false;
-    }
-    scan.digits == 1 && scan.value == 0
-}
 
-fn take_prefix(scan: Scan) -> Scan
-    ensures { result.count ≡ scan.count }
-{
-    let mut next = scan;
-    next.digits = 0;
-    next.prefixed = true;
-    next
-}
-
-// A byte of a halfword.
-fn take_digit(scan: Scan, b: u8) -> Scan
-    ensures { result.count ≡ scan.count }
-{
-    let d = digit_of(b);
-    if d >= NO_DIGIT {
-        return with_status(scan, Status::NotHex(b));
-    }
-    if scan.digits >= MOST_DIGITS {
-        return with_status(scan, Status::TooLong);
-    }
-    let mut next = scan;
-    next.digits = scan.digits + 1;
-    next.value = with_digit(scan.value, d);
-    next
-}
-
-// A byte of a halfword or of a comment.
-fn take_character(scan: Scan, b: u8) -> Scan
-    ensures { result.count ≡ scan.count }
-{
-    if scan.comment {
-        return scan;
-    }
-    if is_prefix(scan, b) {
-        return take_prefix(scan);
-    }
-    take_digit(scan, b)
-}
-
-// One byte more, by its kind.
-fn take_kind(scan: Scan, b: u8, code: &mut [u16]) -> Scan
-    requires { Kept scan code.old }
-    ensures { KeptIn code.old result code.new }
-{
-    match b {
-        b' ' => end_word(scan, code),
-        b'\t' => end_word(scan, code),
-        b'\r' => end_line(end_word(scan, code), b),
-        b'\n' => end_line(end_word(scan, code), b),
-        b'#' => open_comment(end_word(scan, code)),
-        _ => take_character(scan, b),
+    // The halfword with a digit more.
+    fn with(self, b: u8) -> Result<Word, ScanError> {
+        let d = digit_of(b).ok_or(ScanError::NotHex(b))?;
+        if self.digits >= MOST_DIGITS {
+            return Err(ScanError::TooLong);
+        }
+        Ok(Word {
+            digits: self.digits + 1,
+            value: with_digit(self.value, d),
+            ..self
+        })
     }
 }
 
-// One byte more of the text.
-fn take(scan: Scan, b: u8, code: &mut [u16]) -> Scan
-    requires { Kept scan code.old }
-    ensures { KeptIn code.old result code.new }
-{
-    let mut next = take_kind(scan, b, code);
-    next.returned = b == b'\r';
-    next
+// What is known after some of the text: the line, the halfwords before, the one that
+// may have begun, whether a comment has, and whether the byte before was a carriage
+// return.
+#[derive(Drop)]
+pub struct Scan {
+    pub line: u64,
+    pub code: ArrayVec<u16, ROOM>,
+    word: Word,
+    comment: bool,
+    returned: bool,
 }
 
-// Some of the text, up to its end or to what is no halfword.
-pub(crate) fn take_piece(piece: &[u8], scan: Scan, code: &mut [u16]) -> Scan
-    requires { Kept scan code.old }
-    ensures { KeptIn code.old result code.new }
-{
-    let mut so_far = scan;
-    let mut i = 0;
-    while i < piece.len() && is_reading(so_far) {
-        let next = take(so_far, piece[i], code);
-        so_far = next;
-        i += 1;
+impl Scan {
+    // Before the text.
+    pub(crate) fn new() -> Scan {
+        Scan {
+            line: 1,
+            code: ArrayVec::new(),
+            word: Word::default(),
+            comment: false,
+            returned: false,
+        }
     }
-    so_far
-}
 
-// The end of the text.
-pub(crate) fn finish(scan: Scan, code: &mut [u16]) -> Scan
-    requires { Kept scan code.old }
-    ensures { KeptIn code.old result code.new }
-{
-    let last = end_word(scan, code);
-    if is_reading(last) {
-        return with_status(last, Status::Ended);
+    // The end of a halfword, if one has begun. What there is no room for is left out:
+    // it is too much already.
+    fn end_word(&mut self) -> Result<(), ScanError> {
+        let word = self.word;
+        if word.digits > 0 {
+            let _ = self.code.try_push(word.value);
+        } else if word.prefixed {
+            return Err(ScanError::NoDigits);
+        }
+        self.word = Word::default();
+        Ok(())
     }
-    last
+
+    // The end of a line, and of its comment. A carriage return with a line feed
+    // behind it ends one line.
+    fn end_line(&mut self, b: u8) {
+        self.comment = false;
+        if !(b == b'\n' && self.returned) {
+            self.line = self.line.saturating_add(1);
+        }
+    }
+
+    // One byte more of the text.
+    fn take(&mut self, b: u8) -> Result<(), ScanError> {
+        match b {
+            b' ' | b'\t' => self.end_word()?,
+            b'\r' | b'\n' => {
+                self.end_word()?;
+                self.end_line(b);
+            }
+            b'#' => {
+                self.end_word()?;
+                self.comment = true;
+            }
+            _ if self.comment => (),
+            _ if self.word.is_prefix(b) => {
+                self.word = Word {
+                    prefixed: true,
+                    ..Word::default()
+                };
+            }
+            _ => self.word = self.word.with(b)?,
+        }
+        self.returned = b == b'\r';
+        Ok(())
+    }
+
+    // Some of the text, up to its end or to what is no halfword.
+    pub(crate) fn take_piece(&mut self, piece: &[u8]) -> Result<(), ScanError> {
+        for &b in piece {
+            self.take(b)?;
+        }
+        Ok(())
+    }
+
+    // The end of the text.
+    pub(crate) fn finish(&mut self) -> Result<(), ScanError> {
+        self.end_word()
+    }
 }

@@ -58,13 +58,9 @@ pack_checks code w l size =
     ∷ whole check.OutputLength (check16 code size)
     ∷ []
 
-abbrev pub packed_as : Result ⊤ Refusal → Result ⊤ Refusal
-packed_as (Ok tt) = Ok tt
-packed_as (Err r) = Err r
-
--- the packer's answer
+-- the packer's answer: the first no
 unfoldable pub pack_of : List ℕ → ℕ → ℕ → ℕ → Result ⊤ Refusal
-pack_of code w l size = packed_as (first_no (pack_checks code w l size))
+pack_of code w l size = first_no (pack_checks code w l size)
 
 -- the output afterwards: the image, or what it was before if the packer refuses
 abbrev pub output_as : Result ⊤ Refusal → List ℕ → List ℕ → List ℕ

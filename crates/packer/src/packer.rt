@@ -4,17 +4,18 @@ ghost use Rattle.refusals.specs.Refusal.{refusal};
 ghost use Rattle.image.specs.Check.{first_no};
 ghost use Rattle.packer.specs.Pack.{pack_checks, pack_of, output_of};
 
-use super::writer::{blocks_needed, write_image};
+use super::writer::{Plan, blocks_needed};
 use image::{BLOCK_BYTES, MOST_CODE, is_window};
 use refusals::{Check, Refusal};
 use units::{ByteAddress, InstructionIndex};
 
 // Checks 15, 8 and 16 of an output of `size` bytes.
+#[tactic(auto, unfolding(image::specs::Check::first_no, crate::specs::Pack::check15, crate::specs::Pack::check16))]
 fn check_pack(code: &[u16], w: u16, l: u16, size: usize) -> Result<(), Refusal>
     ensures { result ≡ first_no (pack_checks code.now w l size) }
 {
     let n = code.len();
-    if n < 1 || MOST_CODE < n {
+    if !(1..=MOST_CODE).contains(&n) {
         return Err(Refusal::new(Check::CodeLength));
     }
     let end = ByteAddress::from(InstructionIndex(n as u16));
@@ -29,11 +30,12 @@ fn check_pack(code: &[u16], w: u16, l: u16, size: usize) -> Result<(), Refusal>
 
 // Makes the image of `code` with the window of `l` bytes from `w`. Refused, it
 // changes no byte. What the code says is not looked at.
+#[tactic(auto, unfolding(crate::specs::Pack::pack_of, crate::specs::Pack::output_of))]
 pub fn pack(code: &[u16], w: u16, l: u16, out: &mut [u8]) -> Result<(), Refusal>
     ensures { (result ≡ pack_of code.now w l (length out.old))
         × (out.new ≡ output_of code.now w l out.old) }
 {
     check_pack(code, w, l, out.len())?;
-    write_image(code, w, l, out);
+    Plan { code, w, l }.write_image(out);
     Ok(())
 }

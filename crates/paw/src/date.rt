@@ -6,6 +6,5 @@ ghost use Rattle.paw.specs.Date.{manual_date};
 pub extern "C" fn paw_manual_date(i: usize) -> u8
     ensures { result ≡ get_or manual_date i 0 }
 {
-    let date = isa::MANUAL_DATE;
-    if i < 17 { date[i] } else { 0 }
+    isa::MANUAL_DATE.get(i).copied().unwrap_or(0)
 }

@@ -2,7 +2,8 @@
 ghost use Rattle.std.specs.Prelude.{◌≡◌};
 ghost use Rattle.paw_tools.specs.Answers.{above, assembled_word, listed_word};
 
-use assembler::Assembled;
+use assembler::TextRefusal;
+use refusals::Refusal;
 
 // The largest number that 48 bits hold.
 const MOST: u64 = 0xffffffffffff;
@@ -12,20 +13,16 @@ const MOST: u64 = 0xffffffffffff;
 fn put_above(n: u64) -> u64
     ensures { result ≡ above n }
 {
-    if n < MOST {
-        n * 0x10000
-    } else {
-        MOST * 0x10000
-    }
+    n.min(MOST) * 0x10000
 }
 
 // The halfwords written, or the refusal's number and line.
-pub(crate) fn assembled_word(answer: Assembled) -> u64
+pub(crate) fn assembled_word(answer: Result<usize, TextRefusal>) -> u64
     ensures { result ≡ assembled_word answer }
 {
     match answer {
-        Assembled::Done(n) => put_above(n as u64),
-        Assembled::Refused { number, line } => (number as u64) + put_above(line),
+        Ok(n) => put_above(n as u64),
+        Err(r) => (u8::from(r.check) as u64) + put_above(r.line),
     }
 }
 
@@ -34,7 +31,7 @@ pub(crate) fn listed_word(answer: Result<usize, Refusal>) -> u64
     ensures { result ≡ listed_word answer }
 {
     match answer {
-        Ok(n) => put_above(n as u64),
-        Err(r) => r.word(),
+        Ok(length) => put_above(length as u64),
+        Err(refusal) => refusal.word(),
     }
 }

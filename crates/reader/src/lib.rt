@@ -4,4 +4,4 @@
 
 mod reader;
 
-pub use reader::{BlockReader, Given, answer_of, given_at, given_checked, next, open};
+pub use reader::{BlockReader, given_at, given_checked};

@@ -41,7 +41,7 @@ turn_noted : (n : ℕ) (o : Outcome) (s : State) (count : ℕ) (rest rest' : Run
 turn_noted n Completed s count rest rest' set e = e refl
 turn_noted n Halted s count rest rest' set e =
     ap (λ (x : ℕ). run_result (with_note x s.machine) s.memory ended.Halted count) (set refl)
-turn_noted n (Stopped number) s count rest rest' set e = refl
+turn_noted n (Stopped why) s count rest rest' set e = refl
 turn_noted n (Refused q) s count rest rest' set e = refl
 
 from_noted : (n left count : ℕ) (s : State) → run_from left count (noting n s) ≡ renoted n (run_from left count s)

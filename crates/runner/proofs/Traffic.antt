@@ -10,13 +10,13 @@ use Rattle.cpu.specs.declared.outcome.Outcome.{Outcome}
 use Rattle.cpu.specs.declared.outcome.Outcome.TheVariants.{Completed, Halted, Stopped, Refused}
 use Rattle.traffic.specs.declared.data.Traffic.{Traffic}
 use Rattle.traffic.specs.declared.data.Traffic.TheVariants.{NoData}
+use Rattle.traffic.specs.declared.log.Log.{Log}
 use Rattle.traffic.specs.Log.{empty_log, logged, last_logged}
 use Rattle.traffic.proofs.Logs.{Logs, logs_empty, logs_step}
 use Rattle.cpu.specs.Machine.{with_note}
 use Rattle.cpu.specs.Step.{State, StepResult, fetched, step_of}
 use Rattle.cpu.specs.Held.{held}
 use Rattle.cpu.specs.Traffic.{decoded_traffic, when_completed, step_traffic}
-use Rattle.cpu.proofs.Traffic.{step_small}
 use Rattle.cpu.proofs.Notes.{keeping, step_note, traffic_note}
 use Rattle.runner.specs.Run.{RunResult, state, outcome_at, next_state, state_after, run_of}
 use Rattle.runner.specs.Traffic.{traffic_at, last_traffic, run_traffic}
@@ -27,16 +27,16 @@ use Rattle.runner.proofs.Noted.{noting, run_noted}
 -- ---- the run's turns
 
 -- so many steps have led here, and the log has what the last of them touched
-pub record Reached (s : State) (count : ℕ) (here : State) (log : List ℕ) : Type 0 where
+pub record Reached (s : State) (count : ℕ) (here : State) (log : Log) : Type 0 where
   pub state : state_after count s ≡ here
   pub logs : Logs count (last_traffic count s) log
 
-pub reached_first : (s : State) (log : List ℕ) → log ≡ empty_log → Reached s 0 s log
+pub reached_first : (s : State) (log : Log) → log ≡ empty_log → Reached s 0 s log
 unfolding state_after
 reached_first s log empty = record { state = refl; logs = subst⁻¹ (Logs 0 NoData) empty logs_empty }
 
 -- one more turn
-pub reached_again : (s : State) (count : ℕ) (log log' regs memory regs' memory' : List ℕ) (k : Control) (e : Executed)
+pub reached_again : (s : State) (count : ℕ) (log log' : Log) (regs memory regs' memory' : List ℕ) (k : Control) (e : Executed)
     → Steps regs memory k regs' e memory' → log' ≡ logged count (step_traffic (held regs k) memory) log
     → e.outcome ≡ Completed → Reached s count (state (held regs k) memory) log
     → Reached s (count + 1) (state (held regs' e.control) memory') log'
@@ -46,7 +46,7 @@ reached_again s count log log' regs memory regs' memory' k e leads put completed
     let here : traffic_at (state_after count s) ≡ step_traffic m memory = ap traffic_at reached.state in
     let stepped = whole_step regs memory regs' memory' k e leads completed in
     let written =
-    logs_step count (last_traffic count s) (step_traffic m memory) log (step_small m memory) reached.logs in
+    logs_step count (last_traffic count s) (step_traffic m memory) log reached.logs in
     let more : count + 1 ≡ suc count = omega arith in
     rw more (record {
       state = ap next_state reached.state ∙ ap (λ (r : StepResult). r.state) stepped;
@@ -54,7 +54,7 @@ reached_again s count log log' regs memory regs' memory' k e leads put completed
     })
 
 -- a turn that is not completed leaves the log as it is
-pub reached_last : (s here : State) (count : ℕ) (log log' regs memory regs' memory' : List ℕ) (k : Control)
+pub reached_last : (s here : State) (count : ℕ) (log log' : Log) (regs memory regs' memory' : List ℕ) (k : Control)
     (e : Executed)
     → Steps regs memory k regs' e memory' → log' ≡ logged count (step_traffic (held regs k) memory) log
     → Last e.outcome → Reached s count here log → Reached s count here log'
@@ -68,11 +68,11 @@ reached_last s here count log log' regs memory regs' memory' k e leads put last 
     quiet : (o : Outcome) (t : Traffic) → Last o → when_completed o t ≡ NoData
     quiet Completed t last = absurd (last refl)
     quiet Halted t last = refl
-    quiet (Stopped number) t last = refl
+    quiet (Stopped why) t last = refl
     quiet (Refused r) t last = refl
 
 -- a run tells what the last of the steps that it counts told
-pub run_told : (budget : ℕ) (m m₀ : Machine) (memory : List ℕ) (count : ℕ) (here : State) (log : List ℕ)
+pub run_told : (budget : ℕ) (m m₀ : Machine) (memory : List ℕ) (count : ℕ) (here : State) (log : Log)
     → m₀ ≡ m → Reached (state m₀ memory) count here log
     → (r : RunResult) → r.count ≡ count → r ≡ unnoted_run (run_of budget m memory)
     → last_logged r.count log ≡ run_traffic budget m memory
@@ -85,7 +85,7 @@ run_told budget m m₀ memory count here log start reached r counted ran =
     ∙ ap (λ (q : RunResult). last_traffic q.count (state m memory)) ran
 
 -- a refused run has made none
-pub refused_told : (budget : ℕ) (m : Machine) (memory log : List ℕ) (r : RunResult) → r.count ≡ 0
+pub refused_told : (budget : ℕ) (m : Machine) (memory : List ℕ) (log : Log) (r : RunResult) → r.count ≡ 0
     → r ≡ unnoted_run (run_of budget m memory) → last_logged r.count log ≡ run_traffic budget m memory
 unfolding run_traffic
 refused_told budget m memory log r none ran =
@@ -108,7 +108,7 @@ after_noted n (suc k) s =
     kept : (n : ℕ) (o : Outcome) (s : State) → (n' : ℕ) × (state (keeping o n s.machine) s.memory ≡ noting n' s)
     kept n Completed s = (n, refl)
     kept n Halted s = (s.machine.note, refl)
-    kept n (Stopped number) s = (n, refl)
+    kept n (Stopped why) s = (n, refl)
     kept n (Refused r) s = (n, refl)
 
 last_noted : (n count : ℕ) (s : State) → last_traffic count (noting n s) ≡ last_traffic count s

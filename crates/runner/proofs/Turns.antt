@@ -81,7 +81,7 @@ last_step r count rest last = go r.outcome last
         ≡ ran (step_result (with_note 0 r.state.machine) r.state.memory o) count
     go Completed last = absurd (last refl)
     go Halted last = refl
-    go (Stopped number) last = refl
+    go (Stopped why) last = refl
     go (Refused q) last = refl
 
 module _ (budget : ℕ) (m₀ : Machine) (memory₀ : List ℕ) (right₀ : length memory₀ ≡ memory_bytes) where

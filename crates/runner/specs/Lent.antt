@@ -21,5 +21,5 @@ unnoted_run r = run_result (with_note 0 r.state.machine) r.state.memory r.outcom
 abbrev pub note_left : RunOutcome → ℕ → ℕ → ℕ
 note_left ended.Spent low before = before
 note_left ended.Halted low before = low
-note_left (ended.Stopped number) low before = before
+note_left (ended.Stopped why) low before = before
 note_left (ended.Refused r) low before = before

@@ -39,7 +39,7 @@ run_result m memory outcome count = record { state = state m memory; outcome = o
 abbrev pub go_on : Outcome → State → ℕ → RunResult → RunResult
 go_on Completed s count rest = rest
 go_on Halted s count rest = record { state = s; outcome = ended.Halted; count = count }
-go_on (Stopped number) s count rest = record { state = s; outcome = ended.Stopped number; count = count }
+go_on (Stopped why) s count rest = record { state = s; outcome = ended.Stopped why; count = count }
 go_on (Refused r) s count rest = record { state = s; outcome = ended.Refused r; count = count }
 
 -- with so much of the budget left and so many steps completed. A budget that is spent ends the run whatever comes next

@@ -10,11 +10,7 @@ use super::runs::RunOutcome;
 fn byte_at(memory: &[u8], a: u16) -> u8
     ensures { result ≡ byte_at memory.now a }
 {
-    if (a as usize) < memory.len() {
-        memory[a as usize]
-    } else {
-        0
-    }
+    memory.get(a as usize).copied().unwrap_or(0)
 }
 
 // The note after a run that ended so with the PC there, where it was another

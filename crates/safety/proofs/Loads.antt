@@ -18,7 +18,7 @@ use Rattle.image.proofs.Valid.{code_halfword_is, code_fits}
 use Rattle.image.specs.Code.{code_of}
 use Rattle.image.specs.declared.checker.Layout.{Layout}
 use Rattle.verifier.specs.Verify.{verify_of}
-use Rattle.loader.specs.Load.{code_byte, in_window, loaded_byte_of, loaded_memory, loaded_as, load_of, memory_as}
+use Rattle.loader.specs.Load.{code_byte, in_window, loaded_byte_of, loaded_memory, load_of, memory_as}
 use Rattle.loader.specs.Load.{memory_after_load}
 use Rattle.safety.specs.Safety.{HoldsCode}
 use Rattle.std.specs.Prelude.{Result, Ok, Err}
@@ -29,17 +29,13 @@ pub record WasFit (file memory : List ℕ) (layout : Layout) : Type 0 where
   pub size : length memory ≡ memory_bytes
   pub fit : verify_of file ≡ Ok layout
 
-fit_layout : (v : Result Layout Refusal) (layout : Layout) → loaded_as v ≡ Ok layout → v ≡ Ok layout
-fit_layout (Ok x) layout e = let q : x ≡ layout = cc in ap Ok q
-fit_layout (Err r) layout e = clash (cc)
-
 pub was_fit : (file memory : List ℕ) (layout : Layout) → load_of file memory ≡ Ok layout → WasFit file memory layout
 unfolding load_of
 was_fit file memory layout e = go (eqb (length memory) memory_bytes) refl e
   where
     go : (t : Bool) → eqb (length memory) memory_bytes ≡ t
-        → cond t (loaded_as (verify_of file)) (Err (refusal check.MemorySize)) ≡ Ok layout → WasFit file memory layout
-    go true q d = record { size = eqb-true _ _ q; fit = fit_layout (verify_of file) layout d }
+        → cond t (verify_of file) (Err (refusal check.MemorySize)) ≡ Ok layout → WasFit file memory layout
+    go true q d = record { size = eqb-true _ _ q; fit = d }
     go false q d = clash (cc)
 
 pub after_load : (file memory : List ℕ) (layout : Layout) → load_of file memory ≡ Ok layout

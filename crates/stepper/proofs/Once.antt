@@ -16,9 +16,9 @@ use Rattle.runner.specs.declared.runs.RunOutcome.TheVariants.{Spent}
 use Rattle.traffic.specs.declared.data.Traffic.{Traffic}
 use Rattle.cpu.specs.Step.{State, StepResult, step_result, fetched, step_of}
 use Rattle.cpu.specs.Traffic.{decoded_traffic, when_completed, step_traffic}
+use Rattle.runner.specs.Ends.{as_step}
 use Rattle.runner.specs.Run.{RunResult, run_result, state, state_after, go_on, run_from, run_of}
 use Rattle.runner.specs.Traffic.{last_traffic, run_traffic}
-use Rattle.stepper.specs.Ends.{as_step}
 
 -- a run of one step, as a step
 abbrev as_step_result : RunResult → StepResult
@@ -31,7 +31,7 @@ spent s = record { state = s; outcome = Spent; count = 1 }
 after_one : (o : Outcome) (s : State) → as_step_result (go_on o s 0 (spent s)) ≡ record { state = s; outcome = o }
 after_one Completed s = refl
 after_one Halted s = refl
-after_one (Stopped number) s = refl
+after_one (Stopped why) s = refl
 after_one (Refused r) s = refl
 
 wrong : (m : Machine) (memory : List ℕ) → eqb (length memory) memory_bytes ≡ false
@@ -67,7 +67,7 @@ one_told m memory = go (eqb (length memory) memory_bytes) refl
         → last_traffic (go_on o r.state 0 (spent r.state)).count (state m memory) ≡ when_completed r.outcome t
     told Completed e = refl
     told Halted e = ap (λ (o : Outcome). when_completed o t) e
-    told (Stopped number) e = ap (λ (o : Outcome). when_completed o t) e
+    told (Stopped why) e = ap (λ (o : Outcome). when_completed o t) e
     told (Refused q) e = ap (λ (o : Outcome). when_completed o t) e
 
     go : (b : Bool) → eqb (length memory) memory_bytes ≡ b

@@ -11,6 +11,7 @@ use Rattle.cpu.specs.Machine.{pc, machine, with_note}
 use Rattle.cpu.specs.Step.{StepResult, step_result, completed, stopped, step_of}
 use Rattle.cpu.specs.declared.machine.Machine.{Machine}
 use Rattle.cpu.specs.declared.outcome.Outcome.TheVariants.{Halted}
+use Rattle.cpu.specs.declared.outcome.Stop.TheVariants.{Undefined}
 use Rattle.packer.specs.Pack.{image_of}
 use Rattle.verifier.specs.Verify.{verify_of}
 use Rattle.std.specs.Prelude.{Some, None, Ok, Err}
@@ -43,7 +44,7 @@ HaltsWith h note = (decode_of h ≡ Some (Halt note))
 
 -- h is no instruction, and a step on it is stop 19, which changes nothing
 abbrev pub NoInstruction : ℕ → Type 0
-NoInstruction h = (decode_of h ≡ None) × Does h (stopped 19)
+NoInstruction h = (decode_of h ≡ None) × Does h (stopped Undefined)
 
 -- the code P, whose first halfword is given
 abbrev pub code_p : ℕ → List ℕ

@@ -14,6 +14,8 @@ use Rattle.isa.specs.declared.instruction.Instruction.{Instruction}
 use Rattle.isa.specs.declared.instruction.Instruction.TheVariants.{Halt}
 use Rattle.syntax.specs.Syntax.{Item, label_row, branch_row}
 use Rattle.syntax.proofs.Rows.{never}
+use Rattle.refusals.specs.declared.check.Check.{Check}
+use Rattle.refusals.specs.declared.check.Check.TheVariants as check
 use Rattle.assembler.specs.Assemble.{is_label, value_at, instructions_in, Definition, definition_from, definition_of}
 use Rattle.assembler.specs.Assemble.{instruction_of, Said, Nothing, Instructs, Fault, label_said, field_said}
 use Rattle.assembler.specs.Assemble.{branch_said}
@@ -120,15 +122,15 @@ not_both items n (missing b d) (reach {name = name} k c g f) =
     let same = sym c.named ∙ b.named in
     d k (subst (Defines items k) same g.defines)
 
--- a fault by its number
-abbrev pub Faulty : ℕ → List Item → ℕ → Type 0
-Faulty number items n = ((number ≡ 22) × Fault22 items n) ⊎ ((number ≡ 23) × Fault23 items n)
+-- a fault by its check
+abbrev pub Faulty : Check → List Item → ℕ → Type 0
+Faulty c items n = ((c ≡ check.Label) × Fault22 items n) ⊎ ((c ≡ check.Value) × Fault23 items n)
 
 -- what a line says tells its fault
 abbrev Judged : List Item → ℕ → Said → Type 0
 Judged items n Nothing = Faultless items n
 Judged items n (Instructs x) = Faultless items n × Instructed items n x
-Judged items n (Fault number) = Faulty number items n
+Judged items n (Fault c) = Faulty c items n
 
 module _ (items : List Item) (n : ℕ) (inside : n < length items) where
   abbrev this : Item
@@ -158,7 +160,7 @@ module _ (items : List Item) (n : ℕ) (inside : n < length items) where
     judged_label none f = absurd (f n defines_here)
     judged_label (some d) f = go (eqb d.line (suc n)) refl
       where
-        go : (b : Bool) → eqb d.line (suc n) ≡ b → Judged items n (cond b Nothing (Fault 22))
+        go : (b : Bool) → eqb d.line (suc n) ≡ b → Judged items n (cond b Nothing (Fault check.Label))
         go true e =
             let l : d.line ≡ suc n = eqb-true d.line (suc n) e in
             let same : f.0 ≡ n = omega (arith, f.2) in
@@ -273,8 +275,8 @@ abbrev pub CheckedAs : List Item → ℕ → Checked → Type 0
 CheckedAs items n (Code is) =
     ((m : ℕ) → n ≤ m → m < length items → Faultless items m) × (length is ≡ instructions_in (drop n items))
     × ((m : ℕ) (x : Instruction) → n ≤ m → Instructed items m x → Stands items n is m x)
-CheckedAs items n (Fails number k) =
-    (m : ℕ) × (k ≡ suc m) × (n ≤ m) × Faulty number items m × ((j : ℕ) → n ≤ j → j < m → Faultless items j)
+CheckedAs items n (Fails c k) =
+    (m : ℕ) × (k ≡ suc m) × (n ≤ m) × Faulty c items m × ((j : ℕ) → n ≤ j → j < m → Faultless items j)
 
 module _ (items : List Item) (n : ℕ) (x : Item) (xs : List Item) (cut : drop n items ≡ x ∷ xs) where
   -- a line without a fault in front
@@ -284,9 +286,9 @@ module _ (items : List Item) (n : ℕ) (x : Item) (xs : List Item) (cut : drop n
       ⊎_elim (λ b. f j b h)
       (λ b. let same : n ≡ j = omega arith in subst (Faultless items) same here) (lt_or_ge n j)
 
-  fails_on : (number k : ℕ) → Faultless items n → CheckedAs items (suc n) (Fails number k)
-      → CheckedAs items n (Fails number k)
-  fails_on number k here c =
+  fails_on : (failed : Check) (k : ℕ) → Faultless items n → CheckedAs items (suc n) (Fails failed k)
+      → CheckedAs items n (Fails failed k)
+  fails_on failed k here c =
       (c.0, c.1, omega (arith, c.2), c.3, more_faultless c.0 here c.4)
 
   counted : instructions_in (drop n items) ≡ next_number x (instructions_in xs)
@@ -299,7 +301,7 @@ module _ (items : List Item) (n : ℕ) (x : Item) (xs : List Item) (cut : drop n
       sym (number_next items n w.0 ∙ ap (λ (y : Item). next_number y (number_before items n)) w.1)
 
   nothing_on : is_label x ≡ true → Faultless items n → (c : Checked) → CheckedAs items (suc n) c → CheckedAs items n c
-  nothing_on p here (Fails number k) c = fails_on number k here c
+  nothing_on p here (Fails failed k) c = fails_on failed k here c
   nothing_on p here (Code is) c =
       let w = next_cut items n x xs cut in
       let this : is_label (item_at items n) ≡ true = ap is_label w.1 ∙ p in
@@ -313,7 +315,7 @@ module _ (items : List Item) (n : ℕ) (x : Item) (xs : List Item) (cut : drop n
 
   instructs_on : (i : Instruction) → is_label x ≡ false → Faultless items n → Instructed items n i → (c : Checked)
       → CheckedAs items (suc n) c → CheckedAs items n (saying (suc n) (Instructs i) c)
-  instructs_on i p here says (Fails number k) c = fails_on number k here c
+  instructs_on i p here says (Fails failed k) c = fails_on failed k here c
   instructs_on i p here says (Code is) c =
       let w = next_cut items n x xs cut in
       let more : suc (number_before items n) ≡ number_before items (suc n) = rw p at numbered in (
@@ -341,7 +343,7 @@ puts items k i x = go (is_label x) (eqb x.row branch_row) refl
     of_label none p = p
     of_label (some d) p = at (eqb d.line k)
       where
-        at : (b : Bool) → Puts x (cond b Nothing (Fault 22))
+        at : (b : Bool) → Puts x (cond b Nothing (Fault check.Label))
         at true = p
         at false = tt
 

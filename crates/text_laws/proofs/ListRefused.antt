@@ -28,7 +28,7 @@ use Rattle.isa.specs.declared.instruction.Instruction.{Instruction}
 -- where rows of checks are refused, there is a first row that is
 module _ (row : ℕ → List Asked) (r : Refusal) where
   abbrev FirstBelow : ℕ → Type 0
-  FirstBelow n = (i : ℕ) × (i < n) × (first_no (rows_below row i) ≡ (Ok tt)) × (first_no (row i) ≡ Err r)
+  FirstBelow n = (i : ℕ) × (i < n) × (first_no (rows_below row i) ≡ Ok tt) × (first_no (row i) ≡ Err r)
 
   first_no_is : (n : ℕ) → first_no (rows_below row n) ≡ Err r → FirstBelow n
   unfolding rows_below first_no
@@ -42,6 +42,9 @@ module _ (row : ℕ → List Asked) (r : Refusal) where
           let t = rest (q ∙ sym (stands row n (suc n) s (omega arith) q) ∙ e) in
           (t.0, omega (arith, t.1), t.2, t.3)
 
+abbrev passed : Result ⊤ Refusal
+passed = Ok tt
+
 module _ (code : List ℕ) (size : ℕ) where
   abbrev rows : List Asked
   rows = rows_below (checks_at code) (length code)
@@ -49,17 +52,17 @@ module _ (code : List ℕ) (size : ℕ) where
   abbrev last : List Asked
   last = whole check.OutputLength (check16 code size) ∷ []
 
-  listable : (i : ℕ) → first_no (checks_at code i) ≡ (Ok tt) → Listable code i
+  listable : (i : ℕ) → first_no (checks_at code i) ≡ Ok tt → Listable code i
   listable i e =
       let p = row_passes (layout_for code) (address_of i) (decoded_at code i) e in
       record { instruction = instruction_in (decoded_at code i); passes9 = p.0; passes13 = p.1 }
 
-  listable_passes : (i : ℕ) → Listable code i → first_no (checks_at code i) ≡ (Ok tt)
+  listable_passes : (i : ℕ) → Listable code i → first_no (checks_at code i) ≡ Ok tt
   unfolding first_no
   listable_passes i l = rw (l.passes9, l.passes13) refl
 
   -- the code fits an image, and the rows before row n have passed
-  to_row : (n : ℕ) → check15 code ≡ true → first_no (rows_below (checks_at code) n) ≡ (Ok tt) → ListableTo code n
+  to_row : (n : ℕ) → check15 code ≡ true → first_no (rows_below (checks_at code) n) ≡ Ok tt → ListableTo code n
   to_row n c e =
       let right = count_right (length code) c in
       record {
@@ -68,14 +71,15 @@ module _ (code : List ℕ) (size : ℕ) where
         before = λ i h. listable i (each_passed (checks_at code) i n h e);
       }
 
-  rows_pass : (n : ℕ) → ListableTo code n → first_no (rows_below (checks_at code) n) ≡ (Ok tt)
+  rows_pass : (n : ℕ) → ListableTo code n → first_no (rows_below (checks_at code) n) ≡ Ok tt
   rows_pass n l = all_passed (checks_at code) n (λ i h. listable_passes i (l.before i h))
 
   counted : (n : ℕ) → ListableTo code n → check15 code ≡ true
   counted n l = right_count15 (length code) l.some_code l.fits_image
 
   -- a row's own refusal
-  row_refused : (n : ℕ) (r : Refusal) → n < length code → ListableTo code n → (d : Option Instruction) → decoded_at code n ≡ d
+  row_refused : (n : ℕ) (r : Refusal) → n < length code → ListableTo code n → (d : Option Instruction)
+      → decoded_at code n ≡ d
       → first_no (instruction_checks (layout_for code) (address_of n) d) ≡ Err r → ListReason code size r
   unfolding first_no
   row_refused n r h l None q e =
@@ -84,7 +88,7 @@ module _ (code : List ℕ) (size : ℕ) where
   row_refused n r h l (Some x) q e = go (check13 (layout_for code) (address_of n) x) refl e
     where
       go : (b : Bool) → check13 (layout_for code) (address_of n) x ≡ b
-          → cond b (Ok tt) (Err (refusal_at check.Target (address_of n))) ≡ Err r → ListReason code size r
+          → cond b passed (Err (refusal_at check.Target (address_of n))) ≡ Err r → ListReason code size r
       go true p e = clash (cc)
       go false p e =
           let same : refusal_at check.Target (address_of n) ≡ r = cc in
@@ -95,11 +99,11 @@ module _ (code : List ℕ) (size : ℕ) where
   Because (Ok tt) = Unit {0}
   Because (Err r) = ListReason code size r
 
-  because_last : check15 code ≡ true → first_no rows ≡ (Ok tt) → Because (first_no last)
+  because_last : check15 code ≡ true → first_no rows ≡ Ok tt → Because (first_no last)
   unfolding first_no
   because_last c e = go (check16 code size) refl
     where
-      go : (b : Bool) → check16 code size ≡ b → Because (cond b (Ok tt) (Err (refusal check.OutputLength)))
+      go : (b : Bool) → check16 code size ≡ b → Because (cond b passed (Err (refusal check.OutputLength)))
       go true p = tt
       go false p =
           let short : size < length (listing_of code) = leb-false (length (listing_of code)) size p in

@@ -10,6 +10,8 @@ use lib.Dec.{leb}
 use lib.ListN.{length, get_or}
 use borrow.Author.Tests.{leb-true, leb-false, le-leb, lt-leb}
 use Rattle.units.proofs.Cases.{clash, lt_or_ge}
+use Rattle.refusals.specs.declared.check.Check.{Check}
+use Rattle.refusals.specs.declared.check.Check.TheVariants as check
 use Rattle.isa.specs.declared.instruction.Instruction.{Instruction}
 use Rattle.isa.specs.declared.instruction.Instruction.TheVariants.{Halt}
 use Rattle.isa.specs.Encode.{encode_of}
@@ -115,22 +117,22 @@ said_encodes text items s n x (by_name m b d e) =
 -- why an answer is what it is
 abbrev Because : Text → ℕ → Assembly → Type 0
 Because text size (Assembles code) = Assembled text size code
-Because text size (Refuses number place) = Reason text size number place
+Because text size (Refuses c place) = Reason text size c place
 
 module _ (text : Text) (size : ℕ) where
   because_checked : (items : List Item) → Program text items → (c : Checked) → Whole items c
       → Because text size (with_room size c)
-  because_checked items p (Fails number k) w =
-      subst (λ (j : ℕ). Reason text size number j) (sym w.1) (⊎_elim of_label of_field w.3)
+  because_checked items p (Fails failed k) w =
+      subst (λ (j : ℕ). Reason text size failed j) (sym w.1) (⊎_elim of_label of_field w.3)
     where
-      of_label : (number ≡ 22) × Fault22 items w.0 → Reason text size number (suc w.0)
+      of_label : (failed ≡ check.Label) × Fault22 items w.0 → Reason text size failed (suc w.0)
       of_label f =
-          subst (λ (j : ℕ). Reason text size j (suc w.0)) (sym f.0)
+          subst (λ (c : Check). Reason text size c (suc w.0)) (sym f.0)
           (label (record { items = items; program = p; before = λ m h. w.4 m (omega arith) h; here = f.1 }))
 
-      of_field : (number ≡ 23) × Fault23 items w.0 → Reason text size number (suc w.0)
+      of_field : (failed ≡ check.Value) × Fault23 items w.0 → Reason text size failed (suc w.0)
       of_field f =
-          subst (λ (j : ℕ). Reason text size j (suc w.0)) (sym f.0)
+          subst (λ (c : Check). Reason text size c (suc w.0)) (sym f.0)
           (field (record { items = items; program = p; before = λ m h. w.4 m (omega arith) h; here = f.1 }))
   because_checked items p (Code is) w = go (leb (length is) size) refl
     where
@@ -147,7 +149,7 @@ module _ (text : Text) (size : ℕ) where
           has.1 ∙ ap Ok (sym (same ∙ value))
 
       go : (b : Bool) → leb (length is) size ≡ b
-          → Because text size (cond b (Assembles (halfwords_of is)) (Refuses 16 0))
+          → Because text size (cond b (Assembles (halfwords_of is)) (Refuses check.OutputLength 0))
       go true e =
           let room : length is ≤ size = leb-true (length is) size e in
           record {
@@ -171,14 +173,14 @@ module _ (text : Text) (size : ℕ) where
   because_read (NoLine k) e =
       let u = read_unread (lines_of text) text 1 k refl e in
       let n : k ≡ suc u.0 = omega (arith, u.1) in
-      subst (λ (j : ℕ). Reason text size 21 j) (sym n) (unread u.2)
+      subst (λ (j : ℕ). Reason text size check.Line j) (sym n) (unread u.2)
   because_read (Items items) e = go (check15 (instructions_in items)) refl
     where
       says : Says text items
       says = read_says (lines_of text) text 1 items refl e
 
       go : (b : Bool) → check15 (instructions_in items) ≡ b
-          → Because text size (cond b (with_room size (pass items)) (Refuses 15 0))
+          → Because text size (cond b (with_room size (pass items)) (Refuses check.CodeLength 0))
       go true q =
           let right = count_right (instructions_in items) q in
           because_checked items (record { says = says; some_code = right.0; fits_image = right.1 })
@@ -199,16 +201,16 @@ module _ (text : Text) (size : ℕ) where
       (rw (right_count15 (instructions_in items) p.some_code p.fits_image) refl)
 
   -- a program whose first fault is on line n
-  module _ (items : List Item) (n number : ℕ) (before : (m : ℕ) → m < n → Faultless items m)
-      (here : Faulty number items n) where
+  module _ (items : List Item) (n : ℕ) (failed : Check) (before : (m : ℕ) → m < n → Faultless items m)
+      (here : Faulty failed items n) where
     not_faultless : Faultless items n → ⊥
     not_faultless f = ⊎_elim (λ w. f.not22 w.1) (λ w. f.not23 w.1) here
 
-    not_before : (v m : ℕ) → Faulty v items m → m < n → ⊥
+    not_before : (v : Check) (m : ℕ) → Faulty v items m → m < n → ⊥
     not_before v m f h = ⊎_elim (λ w. (before m h).not22 w.1) (λ w. (before m h).not23 w.1) f
 
-    same_number : (v : ℕ) → Faulty v items n → v ≡ number
-    same_number v f =
+    same_check : (v : Check) → Faulty v items n → v ≡ failed
+    same_check v f =
         ⊎_elim
         (λ a. ⊎_elim (λ b. a.0 ∙ sym b.0) (λ b. absurd (not_both items n a.1 b.1)) here)
         (λ a. ⊎_elim (λ b. absurd (not_both items n b.1 a.1)) (λ b. a.0 ∙ sym b.0) here) f
@@ -217,18 +219,18 @@ module _ (text : Text) (size : ℕ) where
     inside =
         ⊎_elim (λ h. h) (λ h. absurd (not_faultless (beyond items n h))) (lt_or_ge n (length items))
 
-    fails : (c : Checked) → Whole items c → with_room size c ≡ Refuses number (suc n)
+    fails : (c : Checked) → Whole items c → with_room size c ≡ Refuses failed (suc n)
     fails (Code is) w = absurd (not_faultless (w.0 n (omega arith) inside))
     fails (Fails v k) w =
         let line : w.0 ≡ n
         = ⊎_elim (λ h. absurd (not_before v w.0 w.3 h))
         (λ h. ⊎_elim (λ l. absurd (not_faultless (w.4 n (omega arith) l))) (λ l. omega arith) (lt_or_ge n w.0))
         (lt_or_ge w.0 n) in
-        let number_is : v ≡ number = same_number v (subst (Faulty v items) line w.3) in
+        let check_is : v ≡ failed = same_check v (subst (λ (m : ℕ). Faulty v items m) line w.3) in
         let line_is : k ≡ suc n = w.1 ∙ ap suc line in
-        rw (number_is, line_is) refl
+        rw (check_is, line_is) refl
 
-  refused : {number place : ℕ} → Reason text size number place → assemble_of text size ≡ Refuses number place
+  refused : {c : Check} {place : ℕ} → Reason text size c place → assemble_of text size ≡ Refuses c place
   unfolding assemble_of
   refused (unread {n = n} u) = rw (unread_read text n u) refl
   refused (wrong_count w) =
@@ -236,21 +238,21 @@ module _ (text : Text) (size : ℕ) where
       (rw (wrong_count15 (instructions_in w.items) w.wrong) refl)
   refused (label {n = n} f) =
       read_program f.items f.program
-      ∙ fails f.items n 22 f.before (inl (refl, f.here)) (pass f.items) (whole_checked f.items)
+      ∙ fails f.items n check.Label f.before (inl (refl, f.here)) (pass f.items) (whole_checked f.items)
   refused (field {n = n} f) =
       read_program f.items f.program
-      ∙ fails f.items n 23 f.before (inr (refl, f.here)) (pass f.items) (whole_checked f.items)
+      ∙ fails f.items n check.Value f.before (inr (refl, f.here)) (pass f.items) (whole_checked f.items)
   refused (too_short s) =
       read_program s.items s.program ∙ go (pass s.items) (whole_checked s.items)
     where
-      go : (c : Checked) → Whole s.items c → with_room size c ≡ Refuses 16 0
+      go : (c : Checked) → Whole s.items c → with_room size c ≡ Refuses check.OutputLength 0
       go (Code is) w = rw (lt-leb (length is) size (omega (arith, w.1, s.short))) refl
       go (Fails v k) w =
           let f = s.faultless w.0 in
           ⊎_elim (λ a. absurd (f.not22 a.1)) (λ a. absurd (f.not23 a.1)) w.3
 
 pub refused_exact : RefusedExact
-refused_exact text size number place =
+refused_exact text size c place =
     (λ e. subst (Because text size) e (because text size), refused text size)
 
 pub assembled_fully : AssembledFully

@@ -40,21 +40,22 @@ use Rattle.text_laws.proofs.Slots.{label_injective}
 use Rattle.text_laws.proofs.Reading.{read_written}
 use Rattle.text_laws.proofs.Texts.{read_says}
 use Rattle.text_laws.proofs.Instructions.{item, name_at, read_as, Landing, written, label_written, no_label, said}
+use Rattle.std.specs.Prelude as Std
 use Rattle.std.specs.Prelude.{Some, None, Result, Ok, Err, ⊤}
 use Rattle.refusals.specs.declared.check.Check.TheVariants as check
 use Rattle.refusals.specs.declared.refusal.Refusal.{Refusal}
 
 -- the instruction that a halfword is
-abbrev pub instruction_in : Option Instruction → Instruction
+abbrev pub instruction_in : Std.Option Instruction → Instruction
 instruction_in (Some x) = x
 instruction_in None = Halt 0
 
 -- instruction i of a code has passed the lister's checks
-abbrev pub Passes : Layout → ByteAddress → Option Instruction → Type 0
+abbrev pub Passes : Layout → ByteAddress → Std.Option Instruction → Type 0
 Passes layout a d = (d ≡ Some (instruction_in d)) × (check13 layout a (instruction_in d) ≡ true)
 
-pub row_passes : (layout : Layout) (a : ByteAddress) (d : Option Instruction) → first_no (instruction_checks layout a d) ≡ (Ok tt)
-    → Passes layout a d
+pub row_passes : (layout : Layout) (a : ByteAddress) (d : Std.Option Instruction)
+    → first_no (instruction_checks layout a d) ≡ Ok tt → Passes layout a d
 row_passes layout a (Some x) e =
     let second : Asked = at_address a check.Target (check13 layout a x) in
     (refl, head_passed second [] (tail_passed (at_address a check.Defined (check9 (Some x))) (second ∷ []) e))
@@ -215,7 +216,8 @@ module _ (code : List ℕ) where
             ≡ Items (item_at i ∷ items_from (suc i) m)
         instruction n f =
             let l : i < length code = omega arith in
-            subst (λ (d : Option Instruction). read_from n (lines_of (instruction_line (address_of i) d ++ listing_from (suc i) m))
+            subst (λ (d : Std.Option Instruction). read_from n
+            (lines_of (instruction_line (address_of i) d ++ listing_from (suc i) m))
             ≡ Items (item_at i ∷ items_from (suc i) m)) (sym (passes i l).0)
             (read_written n _ (listing_from (suc i) m) (item_at i) (items_from (suc i) m)
             (written (address_of i) (get_or code i 0) (instruction_at i) (encoded i l)) (f (suc n)))

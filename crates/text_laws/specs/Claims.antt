@@ -3,6 +3,7 @@ use Rattle.std.specs.Prelude.{true, List, ◌↔◌, ◌≡◌, ℕ, ◌<◌, �
 use Rattle.std.proofs.Math.Option.{none, some}
 use Rattle.text.specs.Text.{Text, is_number, number_of, decimal, is_name, name_of}
 use Rattle.syntax.specs.Syntax.{Item, LineOf, parse, too_large, row_count, pattern_at}
+use Rattle.refusals.specs.declared.check.Check.{Check}
 use Rattle.refusals.specs.declared.refusal.Refusal.{Refusal}
 use Rattle.assembler.specs.Assemble.{instructions_in, assemble_of, Assembles, Refuses, in_fours}
 use Rattle.lister.specs.List.{list_of, Lists}
@@ -42,8 +43,8 @@ FieldsExact =
 -- a text is refused exactly for its reason
 abbrev pub RefusedExact : Type 0
 RefusedExact =
-    (text : Text) (size number place : ℕ)
-    → (assemble_of text size ≡ Refuses number place) ↔ Reason text size number place
+    (text : Text) (size : ℕ) (c : Check) (place : ℕ)
+    → (assemble_of text size ≡ Refuses c place) ↔ Reason text size c place
 
 -- and where it isn't, its code is that of its lines
 abbrev pub AssembledFully : Type 0

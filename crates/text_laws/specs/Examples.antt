@@ -40,80 +40,80 @@ pub record Lines : Type 0 where
 
 -- 21, each at its line
 pub record NoLines : Type 0 where
-  pub no_feed : assembled "HALT #7" ≡ Refuses 21 1
-  pub last_no_feed : assembled "HALT #7\nHALT #7" ≡ Refuses 21 2
-  pub empty_line : assembled "HALT #7\n\n" ≡ Refuses 21 2
-  pub space_more : assembled "MOV R0,  #5\n" ≡ Refuses 21 1
-  pub space_less : assembled "MOV R0,#5\n" ≡ Refuses 21 1
-  pub space_before : assembled " HALT #7\n" ≡ Refuses 21 1
-  pub space_behind : assembled "HALT #7 \n" ≡ Refuses 21 1
-  pub tab : assemble_of (quoted "HALT" ++ (9 ∷ quoted "#7\n")) 1 ≡ Refuses 21 1
-  pub carriage_return : assemble_of (quoted "HALT #7" ++ (13 ∷ 10 ∷ [])) 1 ≡ Refuses 21 1
-  pub high_byte : assemble_of (200 ∷ quoted ":\n") 1 ≡ Refuses 21 1
-  pub small_letters : assembled "halt #7\n" ≡ Refuses 21 1
-  pub capital_label : assembled "Loop:\nHALT #0\n" ≡ Refuses 21 1
-  pub digit_label : assembled "1a:\nHALT #0\n" ≡ Refuses 21 1
-  pub nine_label : assembled "abcdefghi:\nHALT #0\n" ≡ Refuses 21 1
-  pub no_label : assembled ":\nHALT #0\n" ≡ Refuses 21 1
-  pub label_and_more : assembled "a: HALT #0\n" ≡ Refuses 21 1
-  pub register_16 : assembled "MOV R16, R0\n" ≡ Refuses 21 1
-  pub register_01 : assembled "MOV R01, R0\n" ≡ Refuses 21 1
-  pub high_in_low : assembled "AND R8, R0\n" ≡ Refuses 21 1
-  pub no_note : assembled "HALT\n" ≡ Refuses 21 1
-  pub no_offset : assembled "ADD R0, PC\n" ≡ Refuses 21 1
-  pub no_offset_either : assembled "LDR R0, [R1]\n" ≡ Refuses 21 1
-  pub pc_elsewhere : assembled "MOV R0, PC\n" ≡ Refuses 21 1
+  pub no_feed : assembled "HALT #7" ≡ Refuses check.Line 1
+  pub last_no_feed : assembled "HALT #7\nHALT #7" ≡ Refuses check.Line 2
+  pub empty_line : assembled "HALT #7\n\n" ≡ Refuses check.Line 2
+  pub space_more : assembled "MOV R0,  #5\n" ≡ Refuses check.Line 1
+  pub space_less : assembled "MOV R0,#5\n" ≡ Refuses check.Line 1
+  pub space_before : assembled " HALT #7\n" ≡ Refuses check.Line 1
+  pub space_behind : assembled "HALT #7 \n" ≡ Refuses check.Line 1
+  pub tab : assemble_of (quoted "HALT" ++ (9 ∷ quoted "#7\n")) 1 ≡ Refuses check.Line 1
+  pub carriage_return : assemble_of (quoted "HALT #7" ++ (13 ∷ 10 ∷ [])) 1 ≡ Refuses check.Line 1
+  pub high_byte : assemble_of (200 ∷ quoted ":\n") 1 ≡ Refuses check.Line 1
+  pub small_letters : assembled "halt #7\n" ≡ Refuses check.Line 1
+  pub capital_label : assembled "Loop:\nHALT #0\n" ≡ Refuses check.Line 1
+  pub digit_label : assembled "1a:\nHALT #0\n" ≡ Refuses check.Line 1
+  pub nine_label : assembled "abcdefghi:\nHALT #0\n" ≡ Refuses check.Line 1
+  pub no_label : assembled ":\nHALT #0\n" ≡ Refuses check.Line 1
+  pub label_and_more : assembled "a: HALT #0\n" ≡ Refuses check.Line 1
+  pub register_16 : assembled "MOV R16, R0\n" ≡ Refuses check.Line 1
+  pub register_01 : assembled "MOV R01, R0\n" ≡ Refuses check.Line 1
+  pub high_in_low : assembled "AND R8, R0\n" ≡ Refuses check.Line 1
+  pub no_note : assembled "HALT\n" ≡ Refuses check.Line 1
+  pub no_offset : assembled "ADD R0, PC\n" ≡ Refuses check.Line 1
+  pub no_offset_either : assembled "LDR R0, [R1]\n" ≡ Refuses check.Line 1
+  pub pc_elsewhere : assembled "MOV R0, PC\n" ≡ Refuses check.Line 1
   -- PC is the word for it: R15 is no word for PC
-  pub pc_as_R15 : assembled "ADD R0, R15, #4\n" ≡ Refuses 21 1
-  pub zeros : assembled "HALT #00\n" ≡ Refuses 21 1
-  pub leading_zero : assembled "HALT #07\n" ≡ Refuses 21 1
-  pub signed : assembled "HALT #-1\n" ≡ Refuses 21 1
-  pub no_condition : assembled "a:\nBAL a\n" ≡ Refuses 21 2
+  pub pc_as_R15 : assembled "ADD R0, R15, #4\n" ≡ Refuses check.Line 1
+  pub zeros : assembled "HALT #00\n" ≡ Refuses check.Line 1
+  pub leading_zero : assembled "HALT #07\n" ≡ Refuses check.Line 1
+  pub signed : assembled "HALT #-1\n" ≡ Refuses check.Line 1
+  pub no_condition : assembled "a:\nBAL a\n" ≡ Refuses check.Line 2
   -- 21 is put to all lines before anything else
-  pub before_all : assembled "HALT #256\nb:\nb:\nhalt #7\n" ≡ Refuses 21 4
+  pub before_all : assembled "HALT #256\nb:\nb:\nhalt #7\n" ≡ Refuses check.Line 4
 
 -- 15, 22, 23 and 16
 pub record Orders : Type 0 where
-  pub empty_text : assembled "" ≡ Refuses 15 0
-  pub no_instruction : assembled "a:\na:\n" ≡ Refuses 15 0
-  pub twice : assembled "a:\na:\nHALT #0\n" ≡ Refuses 22 2
-  pub missing : assembled "BEQ b\nHALT #0\n" ≡ Refuses 22 1
+  pub empty_text : assembled "" ≡ Refuses check.CodeLength 0
+  pub no_instruction : assembled "a:\na:\n" ≡ Refuses check.CodeLength 0
+  pub twice : assembled "a:\na:\nHALT #0\n" ≡ Refuses check.Label 2
+  pub missing : assembled "BEQ b\nHALT #0\n" ≡ Refuses check.Label 1
   -- 22 and 23 come line by line
-  pub value_first : assembled "HALT #256\nb:\nb:\n" ≡ Refuses 23 1
-  pub label_first : assembled "b:\nb:\nHALT #256\n" ≡ Refuses 22 2
+  pub value_first : assembled "HALT #256\nb:\nb:\n" ≡ Refuses check.Value 1
+  pub label_first : assembled "b:\nb:\nHALT #256\n" ≡ Refuses check.Label 2
   -- 16 comes last, and a label takes no room; room to spare is good
-  pub short : assemble_of (quoted "HALT #7\nHALT #8\n") 1 ≡ Refuses 16 0
-  pub short_last : assemble_of (quoted "HALT #7\nHALT #256\n") 1 ≡ Refuses 23 2
+  pub short : assemble_of (quoted "HALT #7\nHALT #8\n") 1 ≡ Refuses check.OutputLength 0
+  pub short_last : assemble_of (quoted "HALT #7\nHALT #256\n") 1 ≡ Refuses check.Value 2
   pub exact : assemble_of (quoted "a:\nHALT #7\nb:\n") 1 ≡ Assembles (0x0007 ∷ [])
 
 -- 23: each field's last value, and the first that doesn't fit
 pub record Limits : Type 0 where
   pub zero : assembled "HALT #0\n" ≡ Assembles (0x0000 ∷ [])
   pub note : assembled "HALT #255\n" ≡ Assembles (0x00FF ∷ [])
-  pub note_past : assembled "HALT #256\n" ≡ Refuses 23 1
+  pub note_past : assembled "HALT #256\n" ≡ Refuses check.Value 1
   pub move : assembled "MOV R7, #255\n" ≡ Assembles (0x27FF ∷ [])
-  pub move_past : assembled "MOV R7, #256\n" ≡ Refuses 23 1
+  pub move_past : assembled "MOV R7, #256\n" ≡ Refuses check.Value 1
   pub compare : assembled "CMP R7, #255\n" ≡ Assembles (0x2FFF ∷ [])
-  pub compare_past : assembled "CMP R7, #256\n" ≡ Refuses 23 1
+  pub compare_past : assembled "CMP R7, #256\n" ≡ Refuses check.Value 1
   pub word : assembled "LDR R0, [R1, #124]\n" ≡ Assembles (0x6FC8 ∷ [])
-  pub word_past : assembled "LDR R0, [R1, #128]\n" ≡ Refuses 23 1
-  pub word_between : assembled "LDR R0, [R1, #6]\n" ≡ Refuses 23 1
+  pub word_past : assembled "LDR R0, [R1, #128]\n" ≡ Refuses check.Value 1
+  pub word_between : assembled "LDR R0, [R1, #6]\n" ≡ Refuses check.Value 1
   pub byte : assembled "STRB R0, [R1, #31]\n" ≡ Assembles (0x77C8 ∷ [])
-  pub byte_past : assembled "STRB R0, [R1, #32]\n" ≡ Refuses 23 1
+  pub byte_past : assembled "STRB R0, [R1, #32]\n" ≡ Refuses check.Value 1
   pub pc : assembled "ADD R0, PC, #1020\n" ≡ Assembles (0xA0FF ∷ [])
-  pub pc_past : assembled "ADD R0, PC, #1024\n" ≡ Refuses 23 1
-  pub pc_between : assembled "ADD R0, PC, #1018\n" ≡ Refuses 23 1
+  pub pc_past : assembled "ADD R0, PC, #1024\n" ≡ Refuses check.Value 1
+  pub pc_between : assembled "ADD R0, PC, #1018\n" ≡ Refuses check.Value 1
   -- a number never comes round, however long it is
-  pub wrapping : assembled "MOV R0, #65536\n" ≡ Refuses 23 1
-  pub long : assembled "MOV R0, #18446744073709551616\n" ≡ Refuses 23 1
-  pub longer : assembled "HALT #100000000000000000000000000000\n" ≡ Refuses 23 1
+  pub wrapping : assembled "MOV R0, #65536\n" ≡ Refuses check.Value 1
+  pub long : assembled "MOV R0, #18446744073709551616\n" ≡ Refuses check.Value 1
+  pub longer : assembled "HALT #100000000000000000000000000000\n" ≡ Refuses check.Value 1
   -- 256 bytes back and 254 on, to the label's first definition
   pub back : assemble_of (quoted "a:\n" ++ (halts 128 ++ quoted "BEQ a\n")) 200
       ≡ Assembles (replicate 128 0 ++ (0xD080 ∷ []))
-  pub back_past : assemble_of (quoted "a:\n" ++ (halts 129 ++ quoted "BEQ a\n")) 200 ≡ Refuses 23 131
+  pub back_past : assemble_of (quoted "a:\n" ++ (halts 129 ++ quoted "BEQ a\n")) 200 ≡ Refuses check.Value 131
   pub on : assemble_of (quoted "BEQ a\n" ++ (halts 126 ++ quoted "a:\n")) 200
       ≡ Assembles (0xD07F ∷ replicate 126 0)
-  pub on_past : assemble_of (quoted "BEQ a\n" ++ (halts 127 ++ quoted "a:\n")) 200 ≡ Refuses 23 1
+  pub on_past : assemble_of (quoted "BEQ a\n" ++ (halts 127 ++ quoted "a:\n")) 200 ≡ Refuses check.Value 1
 
 pub record Listings : Type 0 where
   pub loop : listed (0x2005 ∷ 0xD0FF ∷ 0x0007 ∷ []) ≡ Lists (quoted "a0:\nMOV R0, #5\nBEQ a0\nHALT #7\n")

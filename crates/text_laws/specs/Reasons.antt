@@ -2,6 +2,8 @@
 -- text's lines. Lines are counted from 0 here, and a refusal carries the line's number from 1.
 use Rattle.std.specs.Prelude.{true, false, List, [], ◌∷◌, ◌++◌, ◌⊎◌, ◌≡◌, ℕ, suc, ◌<◌, ◌≤◌, length, get_or, take, Ok}
 use Rattle.std.proofs.Math.Option.{none, some}
+use Rattle.refusals.specs.declared.check.Check.{Check}
+use Rattle.refusals.specs.declared.check.Check.TheVariants as check
 use Rattle.isa.specs.declared.instruction.Instruction.{Instruction}
 use Rattle.isa.specs.Encode.{encode_of}
 use Rattle.image.specs.Format.{most_code}
@@ -94,13 +96,13 @@ pub record TooShort (text : Text) (size : ℕ) : Type 0 where
   pub faultless : (n : ℕ) → Faultless items n
   pub short : size < instructions_in items
 
--- a refusal of a text, for an output of so many halfwords: its number, and its line or 0
-pub data Reason (text : Text) (size : ℕ) : ℕ → ℕ → Type 0 where
-  unread : {n : ℕ} → Unread text n → Reason text size 21 (suc n)
-  wrong_count : WrongCount text → Reason text size 15 0
-  label : {n : ℕ} → FirstFault Fault22 text n → Reason text size 22 (suc n)
-  field : {n : ℕ} → FirstFault Fault23 text n → Reason text size 23 (suc n)
-  too_short : TooShort text size → Reason text size 16 0
+-- a refusal of a text, for an output of so many halfwords: its check, and its line or 0
+pub data Reason (text : Text) (size : ℕ) : Check → ℕ → Type 0 where
+  unread : {n : ℕ} → Unread text n → Reason text size check.Line (suc n)
+  wrong_count : WrongCount text → Reason text size check.CodeLength 0
+  label : {n : ℕ} → FirstFault Fault22 text n → Reason text size check.Label (suc n)
+  field : {n : ℕ} → FirstFault Fault23 text n → Reason text size check.Value (suc n)
+  too_short : TooShort text size → Reason text size check.OutputLength 0
 
 -- the instruction that line n says: by its values, or of a branch by its name's first definition
 pub data Instructed (items : List Item) (n : ℕ) (x : Instruction) : Type 0 where

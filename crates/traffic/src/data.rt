@@ -5,7 +5,7 @@ ghost use Rattle.traffic.specs.Data.{kind_touched, address_touched};
 
 use units::ByteAddress;
 
-#[derive(Clone, Copy)]
+#[derive(Clone, Copy, PartialEq, Eq, Debug)]
 pub enum Traffic {
     NoData,
     ReadByte(ByteAddress),
@@ -14,37 +14,30 @@ pub enum Traffic {
     WroteHalfword(ByteAddress),
 }
 
-// The kinds of access, as numbers.
-pub const READ_BYTE: u8 = 1;
-
-pub const READ_HALFWORD: u8 = 2;
-
-pub const WROTE_BYTE: u8 = 3;
-
-pub const WROTE_HALFWORD: u8 = 4;
-
-// The kind of what is touched; 0 is no data.
-pub fn kind_touched(t: Traffic) -> u8
-    ensures { result ≡ kind_touched t }
-{
-    match t {
-        Traffic::NoData => 0,
-        Traffic::ReadByte(_) => READ_BYTE,
-        Traffic::ReadHalfword(_) => READ_HALFWORD,
-        Traffic::WroteByte(_) => WROTE_BYTE,
-        Traffic::WroteHalfword(_) => WROTE_HALFWORD,
+impl Traffic {
+    // The kind of what is touched, as the number that C gets; 0 is no data.
+    pub fn kind(self) -> u8
+        ensures { result ≡ kind_touched self }
+    {
+        match self {
+            Traffic::NoData => 0,
+            Traffic::ReadByte(_) => 1,
+            Traffic::ReadHalfword(_) => 2,
+            Traffic::WroteByte(_) => 3,
+            Traffic::WroteHalfword(_) => 4,
+        }
     }
-}
 
-// The address of its first byte; 0 of no data.
-pub fn address_touched(t: Traffic) -> u16
-    ensures { result ≡ address_touched t }
-{
-    match t {
-        Traffic::NoData => 0,
-        Traffic::ReadByte(a) => a.0,
-        Traffic::ReadHalfword(a) => a.0,
-        Traffic::WroteByte(a) => a.0,
-        Traffic::WroteHalfword(a) => a.0,
+    // The address of its first byte; 0 of no data.
+    pub fn address(self) -> u16
+        ensures { result ≡ address_touched self }
+    {
+        match self {
+            Traffic::NoData => 0,
+            Traffic::ReadByte(a) => a.0,
+            Traffic::ReadHalfword(a) => a.0,
+            Traffic::WroteByte(a) => a.0,
+            Traffic::WroteHalfword(a) => a.0,
+        }
     }
 }

@@ -4,7 +4,5 @@
 mod data;
 mod log;
 
-pub use data::{
-    READ_BYTE, READ_HALFWORD, Traffic, WROTE_BYTE, WROTE_HALFWORD, address_touched, kind_touched,
-};
-pub use log::{last_traffic, put_access};
+pub use data::Traffic;
+pub use log::Log;

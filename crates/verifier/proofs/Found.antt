@@ -3,6 +3,7 @@ use Rattle.std.specs.Prelude.{Bool, true, false, ◌≡◌, ℕ, [], ◌∷◌, 
 use Rattle.std.proofs.Common.{refl, sym, ◌∙◌}
 use Rattle.units.proofs.Cases.{clash}
 use Rattle.units.specs.declared.address.ByteAddress.{ByteAddress}
+use Rattle.refusals.specs.declared.refusal.Refusal.{Refusal}
 use Rattle.refusals.specs.declared.check.Check.{Check}
 use Rattle.refusals.specs.declared.check.Check.TheVariants as check
 use Rattle.refusals.specs.Check.{outcome}
@@ -42,12 +43,20 @@ module _ (s : State) (layout : Layout) (a : ByteAddress) (is_last : Bool) (h : �
       (check11 (value s (access_of i).base) (access_of i)) (check12 i) (check13 layout a i) (check14 is_last h)
 
   -- a check that fails is the answer
-  pub told_first : (d : Option Instruction) (failed : Check) → Err failed ≡ found_in s layout a d
-      → answer_at a (Err failed) ≡ first_no (halfword_checks s layout a is_last h d)
-  told_first d failed e = rw (← e) at (told d)
+  pub told_first : (d : Option Instruction) (r : Refusal) → answer_at a (found_in s layout a d) ≡ Err r
+      → Err r ≡ first_no (halfword_checks s layout a is_last h d)
+  told_first d r e = sym (go (found_in s layout a d) e) ∙ told d
+    where
+      go : (f : Result ⊤ Check) → answer_at a f ≡ Err r → answer_at a (with_last f (check14 is_last h)) ≡ Err r
+      go (Ok passed) e = clash (cc)
+      go (Err failed) e = e
 
   -- else check 14 decides
-  pub told_last : (d : Option Instruction) (r : Result ⊤ Check) → Ok tt ≡ found_in s layout a d
-      → r ≡ outcome check.LastHalt (check14 is_last h)
-      → answer_at a r ≡ first_no (halfword_checks s layout a is_last h d)
-  told_last d r e q = rw q (rw (← e) at (told d))
+  pub told_last : (d : Option Instruction) → answer_at a (found_in s layout a d) ≡ Ok tt
+      → answer_at a (outcome check.LastHalt (check14 is_last h)) ≡ first_no (halfword_checks s layout a is_last h d)
+  told_last d e = sym (go (found_in s layout a d) e) ∙ told d
+    where
+      go : (f : Result ⊤ Check) → answer_at a f ≡ Ok tt
+          → answer_at a (with_last f (check14 is_last h)) ≡ answer_at a (outcome check.LastHalt (check14 is_last h))
+      go (Ok passed) e = refl
+      go (Err failed) e = clash (cc)

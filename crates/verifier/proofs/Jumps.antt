@@ -1,6 +1,5 @@
 -- What is asked of a branch, and what is left of a halfword that is none, by its top bits.
-use mathlib.Core.Bool.{Bool, true, false, cond}
-use mathlib.Core.List.{List}
+use mathlib.Core.Bool.{Bool, true, false}
 use mathlib.Core.Path.{◌≡◌, refl, sym, ap, ◌∙◌}
 use Prim.Native.Nat.{ℕ, ◌+◌, ◌≤◌, ◌<◌}
 use native.Mathlib.Decide.{dec_le}
@@ -13,24 +12,16 @@ use Rattle.units.proofs.Cases.{clash}
 use Rattle.isa.specs.Decode.{only, decode_of}
 use Rattle.isa.specs.declared.instruction.Instruction.TheVariants.{Branch}
 use Rattle.isa.proofs.Formats.{is_lower_branch, is_upper_branch, is_none}
-use Rattle.image.specs.declared.checker.Layout.{Layout}
 use Rattle.targets.specs.Targets.{jump_at}
 use Rattle.targets.proofs.Jumps.{is_branch, no_branch}
-use Rattle.checks.specs.State.{after_of}
-use Rattle.checks.specs.Numbers.{target_number}
-use Rattle.checks.specs.Questions.{stays_in_code}
-use Rattle.verifier.specs.Numbers.{number_of}
-use Rattle.verifier.specs.Visit.{Visited}
-use Rattle.verifier.specs.Words.{state_of}
-use Rattle.std.specs.Prelude.{Option, Some, None}
-use Rattle.isa.specs.declared.instruction.Instruction.{Instruction}
+use Rattle.std.specs.Prelude.{Some, None}
 
 to_nowhere : (t : ByteAddress) → None ≡ Some t → ⊥
 to_nowhere t e = clash (cc)
 
 module _ (a : ByteAddress) (h : ℕ) where
   -- what goes somewhere is a branch
-  is_jump : (t : ByteAddress) → jump_at a (decode_of h) ≡ Some t → decode_of h
+  pub is_jump : (t : ByteAddress) → jump_at a (decode_of h) ≡ Some t → decode_of h
       ≡ Some (Branch (field h 8 4) (field h 0 8))
   is_jump t e = go (dec_le 208 (field h 8 8)) (dec_le (field h 8 8) 221)
     where
@@ -39,19 +30,6 @@ module _ (a : ByteAddress) (h : ℕ) where
       go (yes low) (yes high) = is_branch h low high
       go (yes low) (no n) = absurd (to_nowhere t (sym (no_branch a h (λ l u. n u)) ∙ e))
       go (no n) d = absurd (to_nowhere t (sym (no_branch a h (λ l u. n l)) ∙ e))
-
-  -- only where it goes is asked of it, and it leaves the state as it is
-  pub jump_known : {layout : Layout} {ws : List ℕ} {t : ByteAddress} {n : ℕ} → jump_at a (decode_of h) ≡ Some t
-      → n ≡ target_number layout t
-      → Visited layout a (decode_of h) ws ws n
-  jump_known {layout} {ws} {t} e q =
-      let d = is_jump t e in
-      record {
-        number =
-            q ∙ ap (λ (x : Option ByteAddress). cond (stays_in_code layout x) 0 13) (sym e ∙ ap (jump_at a) d)
-            ∙ sym (ap (number_of (state_of ws) layout a) d);
-        state = sym (ap (λ (x : Option Instruction). after_of a x (state_of ws)) d);
-      }
 
   module _ (fits : h < 65536) (still : jump_at a (decode_of h) ≡ None) where
     -- a halfword with the first bits of a branch that is none

@@ -5,4 +5,3 @@ pub mod Memory
 pub mod Found
 pub mod Position
 pub mod Walk
-pub mod Words

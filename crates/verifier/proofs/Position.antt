@@ -1,59 +1,52 @@
--- Within a block of a file, and from one to the next.
-use mathlib.Core.Bool.{Bool, true, false}
-use mathlib.Core.Path.{◌≡◌, refl}
-use Prim.Native.Nat.{ℕ, ◌+◌, ◌-◌, ◌*◌, ◌<◌, ◌≤◌, zero-le}
+-- From one block of a code to the next.
+use mathlib.Core.List.{List}
+use mathlib.Core.Path.{◌≡◌, sym, ap, ◌∙◌}
+use Prim.Native.Nat.{ℕ, ◌+◌, ◌*◌, ◌<◌, ◌≤◌}
 use native.Mathlib.Omega.{arith}
-use borrow.Author.Tests.{ltb-true, ltb-false}
-use lib.Dec.{ltb}
-use Rattle.image.specs.Code.{code_position}
-use Rattle.verifier.specs.Position.{BlockAt, block_end}
+use lib.ListN.{length, get_or}
+use Rattle.units.specs.Bytes.{halfword_at}
+use Rattle.image.specs.Block.{blocks_in}
+use Rattle.image.specs.Check.{check_of}
+use Rattle.image.specs.Code.{code_position, code_at, code_length, code_of}
+use Rattle.image.specs.Format.{block_bytes, block_code, header_bytes, most_code}
+use Rattle.image.specs.declared.checker.Layout.{Layout}
+use Rattle.image.proofs.Valid.{code_length_is, code_halfword_is, code_in_file, last_used, valid_code, valid_size}
+use Rattle.verifier.specs.Position.{before_block}
+use Rattle.std.specs.Prelude.{Ok}
 
--- the block that starts with instruction i, in a code of n, ends before instruction e
-pub record Ends (i n e : ℕ) : Type 0 where
-  pub some : i < e
-  pub inside : e ≤ n
-  pub few : e ≤ i + 249
-  pub full : e < n → e ≡ i + 249
+pub none_before : (n : ℕ) → before_block 0 n ≡ 0
+none_before n = omega arith
 
-pub ends : (i n : ℕ) → i < n → Ends i n (block_end i n)
-ends i n h = go (ltb (n - i) 249) refl
-  where
-    go : (t : Bool) → ltb (n - i) 249 ≡ t → Ends i n (block_end i n)
-    go true e =
-        let l : n - i < 249 = ltb-true _ _ e in
-        rw e (record { some = h; inside = omega arith; few = omega arith; full = λ q. omega arith })
-    go false e =
-        let l : 249 ≤ n - i = ltb-false _ _ e in
-        rw e (record { some = omega arith; inside = omega arith; few = omega arith; full = λ q. refl })
+-- the blocks of an accepted file are as many as its code needs
+module _ (file : List ℕ) (layout : Layout) (ok : check_of file ≡ Ok layout) where
+  all_blocks : length (code_of file) ≤ block_code * blocks_in file
+  unfolding code_length
+  all_blocks =
+      let size = valid_size file layout ok in
+      let used = last_used file layout ok in
+      omega (arith, code_length_is file)
 
--- a loop over a block, from instruction `start` at byte `first`, has come to instruction i, at byte p
-pub record Within (start first end i p : ℕ) : Type 0 where
-  pub from : start ≤ i
-  pub to : i ≤ end
-  pub beside : p + 2 * start ≡ first + 2 * i
+  pub no_more : (k : ℕ) → k < blocks_in file → block_code * k < length (code_of file)
+  unfolding code_length
+  no_more k h =
+      let used = last_used file layout ok in
+      omega (arith, code_length_is file)
 
-pub within_next : {start first end i p : ℕ} → Within start first end i p → i < end
-    → Within start first end (i + 1) (p + 2)
-within_next w l = record { from = omega arith; to = omega arith; beside = omega arith }
+  pub behind : (k : ℕ) → blocks_in file ≤ k → before_block k (length (code_of file)) ≡ length (code_of file)
+  behind k h = omega (arith, all_blocks)
 
--- the instructions of a block stand side by side
-pub in_block : {start first end i p : ℕ} → BlockAt start first → Within start first end i p → i < start + 249
-    → p ≡ code_position i
-in_block b w l = omega arith
+  -- instruction n of block k stands in the file, and is the code's
+  module _ (k n : ℕ) (in_code : block_code * k + n < length (code_of file)) (in_block : n < block_code) where
+    pub number_small : block_code * k + n < most_code
+    number_small = omega (arith, (valid_code file layout ok).1)
 
--- a loop over the blocks of a code of n has come to instruction i, at byte p: to a block, if the code goes on
-pub record Between (n i p : ℕ) : Type 0 where
-  pub to : i ≤ n
-  pub at : i < n → BlockAt i p
+    position_is : code_position (block_code * k + n) ≡ block_bytes * k + header_bytes + 2 * n
+    position_is = omega arith
 
-pub between_first : (n : ℕ) → Between n 0 (code_position 0)
-between_first n = record { to = zero-le; at = λ l. (refl, refl) }
+    pub position_inside : block_bytes * k + header_bytes + 2 * n + 2 ≤ length file
+    position_inside = omega (arith, position_is, code_in_file file layout ok _ in_code)
 
-next_block : (i p : ℕ) → BlockAt i p → BlockAt (i + 249) (p + 512)
-next_block i p b = (omega arith, omega arith)
-
--- from a block to the next
-pub between_next : {n i p e : ℕ} → i < n → BlockAt i p → e ≡ block_end i n → (i < e) × Between n e (p + 512)
-between_next {n} {i} {p} l b q =
-    let x = ends i n l in
-    rw q (x.some, record { to = x.inside; at = λ m. rw (x.full m) (next_block i p b) })
+    pub halfword_is : halfword_at file (block_bytes * k + header_bytes + 2 * n)
+        ≡ get_or (code_of file) (block_code * k + n) 0
+    unfolding code_at
+    halfword_is = ap (halfword_at file) (sym position_is) ∙ sym (code_halfword_is file _ in_code)

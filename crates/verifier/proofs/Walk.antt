@@ -2,31 +2,37 @@
 use mathlib.Core.Bool.{Bool, cond, true, false}
 use mathlib.Core.List.{List}
 use mathlib.Core.Path.{◌≡◌, refl, sym, ap, ◌∙◌}
-use Prim.Native.Nat.{ℕ, zero, suc, ◌<◌}
+use Prim.Native.Nat.{ℕ, zero, suc, ◌-◌, ◌≤◌, ◌<◌}
 use native.Mathlib.Omega.{arith}
 use borrow.Author.Tests.{eq-eqb, ne_eqb}
 use lib.Dec.{eqb}
 use lib.ListN.{length, get_or, length-set}
-use Rattle.refusals.specs.Refusal.{refusal_at}
+use Rattle.refusals.specs.declared.check.Check.{Check}
+use Rattle.refusals.specs.declared.check.Check.TheVariants as check
+use Rattle.units.specs.Address.{byte_address_of}
 use Rattle.units.specs.declared.address.ByteAddress.{ByteAddress}
+use Rattle.units.specs.declared.address.InstructionIndex.{InstructionIndex}
 use Rattle.refusals.specs.declared.refusal.Refusal.{Refusal}
 use Rattle.isa.specs.Decode.{decode_of}
 use Rattle.isa.specs.declared.instruction.Instruction.{Instruction}
 use Rattle.isa.specs.declared.instruction.Instruction.TheVariants.{MovImm, CmpImm, And, Eor, Asr, Tst, Neg, Cmp}
 use Rattle.isa.specs.declared.instruction.Instruction.TheVariants.{AddHigh, CmpHigh, MovHigh, Str, Ldr, Strb, Ldrb}
 use Rattle.isa.specs.declared.instruction.Instruction.TheVariants.{AddPc, Branch, Halt}
-use Rattle.image.specs.Check.{first_no, rows_below}
+use Rattle.image.specs.Check.{first_no, rows_below, check_of}
+use Rattle.image.specs.Code.{code_at, code_of}
+use Rattle.image.specs.Format.{most_code}
 use Rattle.image.specs.declared.checker.Layout.{Layout}
 use Rattle.image.proofs.Answers.{next, stands}
-use Rattle.targets.specs.Targets.{address_of, decoded_at, targeted}
+use Rattle.image.proofs.Valid.{valid_code, code_halfword_is}
+use Rattle.targets.specs.Targets.{address_of, decoded_at, targeted, marked_at}
 use Rattle.checks.specs.State.{State, unknown_state, standing_at, transfer_of, after_of}
-use Rattle.checks.specs.Numbers.{last_number}
+use Rattle.checks.specs.Parts.{last_check}
 use Rattle.checks.specs.Questions.{halfword_checks, answer_at}
 use Rattle.verifier.specs.Progress.{last_answer, PassedBelow, Walked}
+use Rattle.verifier.specs.Found.{found_in}
 use Rattle.verifier.specs.Visit.{Visited}
-use Rattle.verifier.specs.Words.{state_of}
 use Rattle.verifier.specs.Verify.{entering, values_at, checks_at, code_checks, verdict_as, verify_code}
-use Rattle.verifier.proofs.Numbers.{told_first, told_last}
+use Rattle.verifier.proofs.Found.{told_first, told_last}
 use Rattle.std.specs.Prelude.{Option, Some, None, Result, Ok, Err, ⊤}
 
 -- ---- the state
@@ -35,12 +41,6 @@ use Rattle.std.specs.Prelude.{Option, Some, None, Result, Ok, Err, ⊤}
 pub walked_first : {code : List ℕ} {layout : Layout} {s : State} → s ≡ unknown_state → Walked code layout 0 s
 unfolding entering rows_below first_no
 walked_first e = record { state = e; passed = refl }
-
--- a state that is reset where an instruction is marked, with its address in R15, is the state before it
-pub arrives : {code : List ℕ} {layout : Layout} {n : ℕ} {s t : State} {marked : Bool} → Walked code layout n s
-    → marked ≡ targeted code n
-    → t ≡ standing_at (address_of n) (cond marked unknown_state s) → t ≡ values_at code n
-arrives walked q p = rw (p, q, walked.state) refl
 
 length_transfer : (a : ByteAddress) (i : Instruction) (s : State) → length (transfer_of a i s) ≡ length s
 length_transfer a (MovImm rd imm) s = length-set s _ _
@@ -67,14 +67,14 @@ length_after a (Some i) s = length_transfer a i s
 length_after a None s = refl
 
 -- a halfword whose meaning is known
-pub as_known : {layout : Layout} {a : ByteAddress} {d known : (Option Instruction)} {before after : List ℕ} {r : ℕ} → d ≡ known
-    → Visited layout a known before after r → Visited layout a d before after r
+pub as_known : {layout : Layout} {a : ByteAddress} {d known : Option Instruction} {before after : State}
+    {r : Result ⊤ Check} → d ≡ known → Visited layout a known before after r → Visited layout a d before after r
 as_known is visited = rw is visited
 
 -- one that has none
-pub not_known : {layout : Layout} {a : ByteAddress} {d : (Option Instruction)} {ws : List ℕ} → d ≡ None
-    → Visited layout a d ws ws 9
-not_known is = as_known is (record { number = refl; state = refl })
+pub not_known : {layout : Layout} {a : ByteAddress} {d : Option Instruction} {s : State} → d ≡ None
+    → Visited layout a d s s (Err check.Defined)
+not_known is = as_known is (record { found = refl; state = refl })
 
 length_arriving : (a : ByteAddress) (t : Bool) (s : State) → length s ≡ 16
     → length (standing_at a (cond t unknown_state s)) ≡ 16
@@ -92,10 +92,6 @@ pub length_values : (code : List ℕ) (n : ℕ) → length (values_at code n) �
 length_values code n = length_arriving (address_of n) (targeted code n) (entering code n) (length_entering code n)
 
 -- ---- the checks
-
-pub answer_refused : (a : ByteAddress) (n : ℕ) → (n ≡ 0 → ⊥) → answer_at a n ≡ Err (refusal_at n a)
-answer_refused a zero ne = absurd (ne refl)
-answer_refused a (suc n) ne = refl
 
 module _ (code : List ℕ) (layout : Layout) where
   pub verdict_is : (x : Result ⊤ Refusal) → first_no (code_checks code layout (length code)) ≡ x
@@ -118,51 +114,70 @@ module _ (code : List ℕ) (layout : Layout) where
   passed zero h e = e
   passed (suc n) h e = e ∙ rw (ne_eqb (suc n) (length code) (λ (p : suc n ≡ length code). omega arith)) refl
 
-  -- behind it, it decides
-  pub ended : {m h k : ℕ} → length code ≡ suc m → h ≡ get_or code m 0 → k ≡ last_number h
-      → PassedBelow code layout (length code)
-      → first_no (code_checks code layout (length code)) ≡ answer_at (address_of m) k
-  ended {m} l q r e = e ∙ ap (last_answer code) l ∙ rw (r, q, eq-eqb (suc m) (length code) (sym l)) refl
-
--- what a visit to instruction n, at an address, decides: k is the number of the check that fails, s the state left
-pub record Decides (code : List ℕ) (layout : Layout) (n : ℕ) (a : ByteAddress) (k : ℕ) (s : State) : Type 0 where
+-- what the visit to instruction n decides: x is its answer, s the state left
+pub record Decides (code : List ℕ) (layout : Layout) (n : ℕ) (x : Result ⊤ Refusal) (s : State) : Type 0 where
   -- the verdict
-  pub fails : (k ≡ 0 → ⊥) → Err (refusal_at k a) ≡ verify_code code layout
+  pub fails : (r : Refusal) → x ≡ Err r → Err r ≡ verify_code code layout
   -- that check 14 is left
-  pub passes : k ≡ 0 → Walked code layout (suc n) s
+  pub passes : x ≡ Ok tt → Walked code layout (suc n) s
 
--- for an instruction that is checked in the state before it
-module _ {code : List ℕ} {layout : Layout} {n h k : ℕ} {a : ByteAddress} {before after : List ℕ} {falling : State}
-    (walked : Walked code layout n falling) (inside : n < length code) (at : a ≡ address_of n)
-    (halfword : h ≡ get_or code n 0)
-    (values : state_of before ≡ values_at code n) (visited : Visited layout a (decode_of h) before after k) where
+-- for instruction n, number i, which a walk comes to with a state that is reset where the instruction is marked, and
+-- that its address then goes into
+module _ {code : List ℕ} (marks : List ℕ) {layout : Layout} {n h : ℕ} {i : InstructionIndex} {r : Result ⊤ Check}
+    {a : ByteAddress} {falling before after : State} (walked : Walked code layout n falling)
+    (inside : n < length code) (fits : length code ≤ most_code) (number : i.0 ≡ n) (halfword : h ≡ get_or code n 0)
+    (marked : (j : ℕ) → j < most_code → marked_at marks j ≡ targeted code j)
+    (arrived : before ≡ standing_at (byte_address_of i) (cond (marked_at marks i.0) unknown_state falling))
+    (address : a ≡ byte_address_of i) (visited : Visited layout a (decode_of h) before after r)
+    {answer : Result ⊤ Refusal} (answered : answer ≡ answer_at a r) where
+  at : a ≡ address_of n
+  at = rw number at address
+
+  -- that is the state before it
+  values : before ≡ values_at code n
+  values = arrived ∙ rw (number, marked n (omega arith), walked.state) refl
+
   -- the checks of the halfword are those of the instruction
   checked : (x : Result ⊤ Refusal) → x ≡ first_no
-      (halfword_checks (state_of before) layout a (eqb (suc n) (length code)) h (decode_of h))
+      (halfword_checks before layout a (eqb (suc n) (length code)) h (decode_of h))
       → first_no (checks_at code layout n) ≡ x
   unfolding decoded_at
   checked x e = sym (e ∙ rw (values, halfword, at) refl)
 
   -- the state that it leaves falls into the next
-  left : state_of after ≡ entering code (suc n)
+  left : after ≡ entering code (suc n)
   unfolding entering decoded_at
   left = visited.state ∙ rw (values, halfword, at) refl
 
-  pub decided : Decides code layout n a k (state_of after)
+  pub decided : Decides code layout n answer after
   decided =
       let so_far : first_no (code_checks code layout n) ≡ (Ok tt) = passed code layout n inside walked.passed in
       let last : Bool = eqb (suc n) (length code) in
+      let come_to : answer_at a (found_in before layout a (decode_of h)) ≡ answer =
+      sym (answered ∙ ap (answer_at a) visited.found) in
       record {
         fails =
-            λ ne. refusal code layout n (refusal_at k a) inside so_far
-            (checked (answer_at a k) (told_first (state_of before) layout a last h (decode_of h) k visited.number ne)
-            ∙ answer_refused a k ne);
+            λ refused e. refusal code layout n refused inside so_far
+            (checked (Err refused) (told_first before layout a last h (decode_of h) refused (come_to ∙ e)));
         passes =
-            λ z. record {
+            λ e. record {
               state = left;
               passed =
                   next (checks_at code layout) n so_far
-                  ∙ checked _ (told_last (state_of before) layout a last h (decode_of h) k _ visited.number z refl)
+                  ∙ checked _ (told_last before layout a last h (decode_of h) (come_to ∙ e))
                   ∙ rw (halfword, at) refl;
             };
       }
+
+-- behind the last instruction of an accepted file check 14 decides: x is what it answers
+pub ended : (file : List ℕ) {layout : Layout} {n h : ℕ} {r : Result ⊤ Check} {a : ByteAddress} {x : Result ⊤ Refusal}
+    → check_of file ≡ Ok layout → n ≡ length (code_of file) → h ≡ code_at file (n - 1) → r ≡ last_check h
+    → a ≡ byte_address_of (record { 0 = n - 1 }) → x ≡ answer_at a r
+    → PassedBelow (code_of file) layout (length (code_of file))
+    → first_no (code_checks (code_of file) layout (length (code_of file))) ≡ x
+ended file {layout} {n} ok count read is there answered so_far =
+    let some : 1 ≤ length (code_of file) = (valid_code file layout ok).0 in
+    let last : length (code_of file) ≡ suc (n - 1) = omega arith in
+    let halfword = read ∙ sym (code_halfword_is file (n - 1) (omega arith)) in
+    so_far ∙ ap (last_answer (code_of file)) last
+    ∙ rw (answered, there, is, halfword, eq-eqb (suc (n - 1)) (length (code_of file)) (sym last)) refl

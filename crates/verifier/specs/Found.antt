@@ -1,6 +1,6 @@
 -- What the checks of a halfword find: the first of checks 9 to 13 that fails, if one does. Only the contracts of private
 -- functions speak of it.
-use Rattle.std.specs.Prelude.{Bool, cond, Option, Some, None, Result, Ok, Err, ⊤}
+use Rattle.std.specs.Prelude.{Bool, cond, Option, Some, None, Result, Err, ⊤}
 use Rattle.units.specs.declared.address.ByteAddress.{ByteAddress}
 use Rattle.refusals.specs.declared.check.Check.{Check}
 use Rattle.refusals.specs.declared.check.Check.TheVariants as check

@@ -9,10 +9,8 @@ use isa::Instruction;
 pub fn instruction_of(w: u32) -> Option<Instruction>
     ensures { result ≡ instruction_of w }
 {
-    let a = (w / 0x10000 % 256) as u8;
-    let b = (w / 0x100 % 256) as u8;
-    let c = (w % 256) as u8;
-    match w / 0x1000000 {
+    let [kind, a, b, c] = w.to_be_bytes();
+    match kind {
         0 => None,
         1 => Some(Instruction::MovImm { rd: a, imm: b }),
         2 => Some(Instruction::CmpImm { rd: a, imm: b }),

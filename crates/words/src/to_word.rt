@@ -1,14 +1,13 @@
 // Words of instructions.
-ghost use Rattle.std.specs.Prelude.{◌≡◌, ◌<◌};
+ghost use Rattle.std.specs.Prelude.{◌≡◌};
 ghost use Rattle.words.specs.Words.{word, word_of, decoded_word};
 
 use isa::Instruction;
 
-fn pack(kind: u32, a: u8, b: u8, c: u8) -> u32
-    requires { kind < 256 }
+fn pack(kind: u8, a: u8, b: u8, c: u8) -> u32
     ensures { result ≡ word kind a b c }
 {
-    kind * 0x1000000 + (a as u32) * 0x10000 + (b as u32) * 0x100 + (c as u32)
+    u32::from_be_bytes([kind, a, b, c])
 }
 
 // An instruction's word.

@@ -4,5 +4,4 @@ use Rattle.assembler.proofs.reader.enter_label.Goals as goal
 
 pub returns-in-Here : goal.returns-in-Here
 returns-in-Here c =
-    let put = c.define-probed.ensures in
-    (label_again c.requires.known c.requires.named put.0 c.in-Here.is, put.1, put.2)
+    let put = c.define.ensures in (label_again c.requires.known c.requires.named put.0 c.in-Here.is, put.1)

@@ -1,22 +1,18 @@
 -- Each line that is read goes on with the walk.
-use Rattle.std.proofs.Common.{refl, sym, ◌∙◌, arith}
+use Rattle.std.proofs.Common.{refl, sym, arith}
 use Rattle.assembler.proofs.Steps.{lined}
 use Rattle.assembler.proofs.Walk.{walk_start, walk_none, walk_on, sized_on, named, walk_few}
 use Rattle.assembler.proofs.reader.read_all.Goals as goal
 
 pub loop-at-init : goal.loop-at-init
-loop-at-init c = (
-  walk_start c.requires.holds c.requires.columns.0 c.requires.columns.1,
-  record { names_long = refl; numbers_long = refl; halfwords_long = refl; aims_long = refl; lines_long = refl },
-)
+loop-at-init c = (walk_start c.requires, record { table_long = refl; notes_long = refl })
 
 pub returns-in_default : goal.returns-in_default
-returns-in_default c =
-    walk_none c.loop-at.invariant.0 c.loop-at-test.true (sym c.parse.ensures ∙ c.in_default.is)
+returns-in_default c = walk_none c.loop-at.invariant.0 c.loop-at-test.true (sym c.in_default.ensures)
 
-pub enter-no-requires-clause-named : goal.enter-no-requires-clause-named
-enter-no-requires-clause-named c =
-    let l = lined {text = c.args.text.now} {at = c.loop-at.at} (sym c.parse.ensures ∙ c.in-Line.is) in
+pub enter-failed-requires-clause-named : goal.enter-failed-requires-clause-named
+enter-failed-requires-clause-named c =
+    let l = lined {text = c.args.text.now} {at = c.loop-at.at} (sym c.in-Some.ensures) in
     named l.written l.is_parsed_as l.item_is
 
 pub next_number-i-requires : goal.next_number-i-requires
@@ -24,8 +20,7 @@ next_number-i-requires c = omega (arith, walk_few c.loop-at.invariant.0)
 
 pub loop-at-preserved : goal.loop-at-preserved
 loop-at-preserved c =
-    let put = c.enter-no.ensures in
-    let read = sym c.parse.ensures ∙ c.in-Line.is in (
-      walk_on c.loop-at.invariant.0 _ read put c.first_flaw-first.ensures c.next_number-i.ensures,
-      sized_on c.loop-at.invariant.0 _ read put c.loop-at.invariant.1,
+    let put = c.enter-failed.ensures in (
+      walk_on c.loop-at.invariant.0 _ (sym c.in-Some.ensures) put c.first_flaw-flaw.ensures c.next_number-i.ensures,
+      sized_on c.loop-at.invariant.0 _ put c.loop-at.invariant.1,
     )

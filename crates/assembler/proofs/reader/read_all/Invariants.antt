@@ -5,10 +5,7 @@ use Rattle.assembler.proofs.reader.read_all.Given as goal
 
 abbrev pub invariant-loop-at : goal.invariant-loop-at
 invariant-loop-at l =
-    Walked l.text l.names l.numbers l.halfwords l.aims l.lines l.at l.k l.i l.flaw
-    × Sized l.names l.numbers l.halfwords l.aims l.lines l.initial.names l.initial.numbers l.initial.halfwords
-    l.initial.aims
-    l.initial.lines
+    Walked l.text l.table l.notes l.at l.k l.i l.flaw × Sized l.table l.notes l.initial.table l.initial.notes
 
 abbrev pub decreases-loop-at : goal.decreases-loop-at
 decreases-loop-at l = length l.text - l.at

@@ -1,24 +1,25 @@
 -- The upper ten bits tell the operations on registers; of any other halfword `execute_other` does what is left to say.
 use Rattle.std.proofs.Common.{◌≡◌, ℕ, ◌/◌, ◌<◌, List, refl, arith, lit<, rules}
+use Rattle.std.specs.Prelude.{Option}
 use Rattle.isa.specs.Decode.{decode_of}
 use Rattle.alu.specs.declared.control.Control.{Control}
 use Rattle.cpu.specs.declared.held.Executed.{Executed}
 use Rattle.cpu.specs.declared.machine.Machine.{Machine}
 use Rattle.cpu.specs.declared.outcome.Outcome.TheVariants.{Completed}
+use Rattle.traffic.specs.declared.log.Log.{Log}
 use Rattle.cpu.specs.Step.{execute_of}
-use Rattle.cpu.specs.Held.{held, told_decoded, Holds, Leads}
+use Rattle.cpu.specs.Held.{held, told_decoded, Leads}
 use Rattle.cpu.proofs.Access.{Gave}
 use Rattle.cpu.proofs.Dispatch.{is_alu, is_high, is_low_add, is_low_mov, is_cmp, is_other}
 use Rattle.cpu.proofs.Formats.{quiet, arm, leads_as}
 use Rattle.cpu.proofs.executor.execute.Goals as goal
-use Rattle.std.specs.Prelude.{Option}
 use Rattle.isa.specs.declared.instruction.Instruction.{Instruction}
 
 -- an arm: an operation on registers leaves memory and log alone
-registers : (regs memory log : List ℕ) (k : Control) (step h : ℕ) → h < 65536
-    → {known : (Option Instruction)} {regs' : List ℕ} {e : Executed} {k' : Control} {m : Machine}
+registers : (regs memory : List ℕ) (log : Log) (k : Control) (step h : ℕ) → h < 65536
+    → {known : Option Instruction} {regs' : List ℕ} {e : Executed} {k' : Control} {m : Machine}
     → (h < 65536 → decode_of h ≡ known)
-    → told_decoded known (held regs k) memory step log ≡ quiet m memory log → Holds regs' k' m → Gave e k' Completed
+    → told_decoded known (held regs k) memory step log ≡ quiet m memory log → held regs' k' ≡ m → Gave e k' Completed
     → Leads regs' e memory log (told_decoded (decode_of h) (held regs k) memory step log)
 registers regs memory log k step h fits is does holds gave = arm (held regs k) memory log step (is fits) does gave holds
 

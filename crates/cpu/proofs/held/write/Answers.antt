@@ -4,8 +4,8 @@ use Rattle.cpu.proofs.held.write.Goals as goal
 
 pub returns-then-rd-eq15 : goal.returns-then-rd-eq15
 returns-then-rd-eq15 c =
-    write_pc_holds c.args.regs.now c.args.k c.args.rd c.args.x c.requires.0 c.if-rd-eq15.true c.move_to.ensures
+    write_pc_holds c.args.regs.now c.args.k c.args.rd c.args.x c.told-regs c.if-rd-eq15.true c.moved_to.ensures
 
 pub returns-else-rd-eq15 : goal.returns-else-rd-eq15
 returns-else-rd-eq15 c =
-    write_holds c.args.regs.now c.args.k c.args.rd c.args.x c.requires.0 c.if-rd-eq15.false c.advance.ensures
+    write_holds c.args.regs.now c.args.k c.args.rd c.args.x c.told-regs c.if-rd-eq15.false c.advanced.ensures

@@ -5,4 +5,4 @@ use Rattle.cpu.proofs.held.write_low.Goals as goal
 
 pub returns : goal.returns
 returns c =
-    write_holds c.args.regs.now c.args.k c.args.rd c.args.x c.requires.0 (λ e. omega arith) c.advance.ensures
+    write_holds c.args.regs.now c.args.k c.args.rd c.args.x c.told-regs (λ e. omega arith) c.advanced.ensures

@@ -11,4 +11,4 @@ returns c =
     let low = low_is c.args.regs.now c.args.k.pc (field c.args.h 8 3) (omega arith) in
     simp low
     (simp (c.bits.ensures, c.bits-2.ensures) at
-    (advance_holds c.args.regs.now c.compare.result c.requires c.advance.ensures c.compare.ensures))
+    (advance_holds c.args.regs.now c.compare.result c.told-regs c.advanced.ensures c.compare.ensures))

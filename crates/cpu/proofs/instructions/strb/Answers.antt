@@ -4,7 +4,7 @@ use Rattle.cpu.proofs.instructions.strb.Goals as goal
 
 pub returns : goal.returns
 returns c =
-    strb_completes c.args.regs.now c.args.memory.now c.args.log.now c.args.k c.args.step c.args.h c.requires.0
-    c.bits.ensures c.effective_address-a.ensures
+    strb_completes c.args.regs.now c.args.memory.now c.args.log.now c.args.k c.args.step c.args.h
+    c.bits.ensures c.effective_address-a.ensures c.told-regs
     c.bits-2.ensures c.store_byte.ensures
-    c.put_access.ensures c.advance.ensures c.completed.ensures
+    c.put.ensures c.advanced.ensures c.completed.ensures

@@ -9,4 +9,4 @@ returns c =
     let low = low_fields c.args.regs.now c.args.k.pc c.args.h in
     simp (low.0, low.1)
     (simp (c.bits-2.ensures, c.bits.ensures) at
-    (advance_holds c.args.regs.now c.result_flags.result c.requires c.advance.ensures c.result_flags.ensures))
+    (advance_holds c.args.regs.now c.result_flags.result c.told-regs c.advanced.ensures c.result_flags.ensures))

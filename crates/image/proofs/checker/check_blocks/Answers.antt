@@ -1,5 +1,5 @@
 -- The first refusal stands.
-use Rattle.std.proofs.Common.{refl, rules}
+use Rattle.std.proofs.Common.{refl}
 use Rattle.std.proofs.lemmas.Result.{err_from_is_err_and}
 use Rattle.image.specs.Check.{first_no, rows_below}
 use Rattle.image.proofs.Answers.{refused_at, passed_too}
@@ -7,7 +7,7 @@ use Rattle.image.proofs.checker.check_blocks.Goals as goal
 
 pub loop-k-init : goal.loop-k-init
 unfolding first_no rows_below
-loop-k-init c = (search rules, refl)
+loop-k-init c = refl
 
 pub returns-in_err-check_block : goal.returns-in_err-check_block
 returns-in_err-check_block c =
@@ -15,4 +15,4 @@ returns-in_err-check_block c =
     rw (p.1, p.2) (search (refused_at, c.in_err-check_block.was))
 
 pub loop-k-preserved : goal.loop-k-preserved
-loop-k-preserved c = (search rules, search (passed_too, c.in_ok-check_block.was))
+loop-k-preserved c = search (passed_too, c.in_ok-check_block.was)

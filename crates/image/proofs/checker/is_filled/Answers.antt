@@ -1,13 +1,9 @@
--- The count is tested first, so that what it leaves unused lies in the block.
-use Rattle.image.proofs.Answers.{told}
-use Rattle.image.proofs.Verdicts.{filled_full, filled_not, filled_as}
+-- A full block leaves nothing unused.
+use Rattle.std.proofs.Common.{◌∙◌, eq-eqb}
+use Rattle.image.proofs.Verdicts.{filled_full}
 use Rattle.image.proofs.checker.is_filled.Goals as goal
 
 pub returns-then-used-eq-BLOCK_CODE : goal.returns-then-used-eq-BLOCK_CODE
-returns-then-used-eq-BLOCK_CODE c = search filled_full
-
-pub returns-then-not-is_used_right : goal.returns-then-not-is_used_right
-returns-then-not-is_used_right c = search (filled_not, told)
-
-pub returns : goal.returns
-returns c = search (filled_as, told)
+returns-then-used-eq-BLOCK_CODE c =
+    let full = c.if-used-eq-BLOCK_CODE.true in
+    eq-eqb _ _ full ∙ filled_full _ _ _ c.field-used.ensures full

@@ -1,5 +1,5 @@
--- One unused halfword more, and all of them at the end.
-use Rattle.std.proofs.Common.{◌≡◌, refl, ap, ◌∙◌, ◌+◌, ◌-◌, add-one, arith, rules}
+-- One unused halfword more.
+use Rattle.std.proofs.Common.{◌≡◌, ap, ◌∙◌, ◌+◌, ◌-◌, add-one, refl, arith}
 use Rattle.image.specs.Block.{halfword}
 use Rattle.image.specs.Check.{unused_zero}
 use Rattle.image.proofs.Answers.{zero_more}
@@ -7,17 +7,16 @@ use Rattle.image.proofs.checker.is_unused_zero.Goals as goal
 
 pub loop-n-init : goal.loop-n-init
 unfolding unused_zero
-loop-n-init c = (search rules, refl)
+loop-n-init c = refl
 
 pub loop-n-preserved : goal.loop-n-preserved
 loop-n-preserved c =
     let head = c.loop-n in
     let place : 6 + c.args.used + head.n ≡ 6 + (c.args.used + head.n) = omega arith in
-    let next = c.field-all.ensures ∙ ap (halfword c.args.block.now) place in
-    (search rules, rw add-one (zero_more _ _ _ head.all _ head.invariant.1 next))
+    rw add-one (zero_more _ _ _ head.all _ head.invariant (c.field-all.ensures ∙ ap (halfword c.args.block.now) place))
 
 pub returns : goal.returns
 returns c =
     let at = c.loop-n in
     let all : at.n ≡ 249 - c.args.used = omega arith in
-    at.invariant.1 ∙ ap (unused_zero c.args.block.now c.args.used) all
+    at.invariant ∙ ap (unused_zero c.args.block.now c.args.used) all

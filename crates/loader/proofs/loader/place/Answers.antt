@@ -1,20 +1,20 @@
 -- The code of a fit file lies in the file, and code and window lie in memory.
-use Rattle.std.proofs.Common.{length, ap, ◌∙◌, arith}
-use Rattle.loader.proofs.Copied.{code_long}
+use Rattle.std.proofs.Common.{arith}
 use Rattle.loader.proofs.Fit.{window_fits, code_there, placed}
 use Rattle.loader.proofs.loader.place.Goals as goal
 
 pub copy_code-requires-clause-by_index : goal.copy_code-requires-clause-by_index
 copy_code-requires-clause-by_index c =
-    code_there _ _ c.requires.file_value _ c.from-count.ensures
+    code_there _ _ c.requires.file_value _ c.count.ensures
 
 pub clear_window-requires : goal.clear_window-requires
 clear_window-requires c =
     let fits = window_fits _ _ c.requires.file_value in
-    let long = ap length c.copy_code.ensures ∙ code_long c.args.file.now c.args.memory.now _ in
+    let long = c.copy_code.ensures.long in
     omega arith
 
 pub returns : goal.returns
 returns c =
-    placed c.args.file.now c.args.layout c.requires.file_value _ c.from-count.ensures
-    c.args.memory.now _ _ c.requires.memory_len c.copy_code.ensures c.clear_window.ensures
+    placed c.args.file.now c.args.layout c.requires.file_value _ c.count.ensures
+    (λ p. omega (arith, c.type_inv.file p)) c.args.memory.now _ _ c.requires.memory_len c.copy_code.ensures
+    c.clear_window.ensures

@@ -1,13 +1,9 @@
--- What the checks come to is the answer, and the image is written only where they all pass.
-use Rattle.std.proofs.Common.{refl}
-use Rattle.packer.proofs.Packing.{pack_sizes, refused, done}
+-- Where the checks all pass the sizes are right.
+use Rattle.packer.proofs.Packing.{pack_sizes}
 use Rattle.packer.proofs.packer.pack.Goals as goal
 
+pub invariant_of-write_image : goal.invariant_of-write_image
+invariant_of-write_image c = record { fits = (pack_sizes _ _ _ _ _ c.check_pack.ensures c.in_ok-check_pack.was).0 }
+
 pub write_image-requires : goal.write_image-requires
-write_image-requires c = pack_sizes _ _ _ _ _ c.in-Ok.ensures refl
-
-pub returns-in-Err : goal.returns-in-Err
-returns-in-Err c = refused _ _ _ _ _ c.in-Err.ensures _ refl
-
-pub returns-in-Ok : goal.returns-in-Ok
-returns-in-Ok c = done _ _ _ _ _ c.in-Ok.ensures _ refl c.write_image.ensures
+write_image-requires c = (pack_sizes _ _ _ _ _ c.check_pack.ensures c.in_ok-check_pack.was).1

@@ -7,4 +7,4 @@ pub returns-clause-count_after : goal.returns-clause-count_after
 returns-clause-count_after c = rw c.note_left-note.ensures (run_left _ _ _ _ c.run_lent-e.ensures.count_after)
 
 pub returns-clause-traffic_value : goal.returns-clause-traffic_value
-returns-clause-traffic_value c = told_left _ _ _ _ _ c.last_traffic.ensures c.run_lent-e.ensures.log_after
+returns-clause-traffic_value c = told_left _ _ _ _ _ c.last.ensures c.run_lent-e.ensures.log_after

@@ -1,15 +1,14 @@
--- So far the branches of the code up to instruction i are marked, and i stands at the start of a block.
-use Rattle.std.proofs.Common.{◌-◌}
+-- So far the branches of the blocks before block k are marked, and of the first n instructions of that.
+use Rattle.std.proofs.Common.{length, ◌+◌, ◌*◌}
 use Rattle.image.specs.Code.{code_of}
+use Rattle.image.specs.Format.{block_code}
 use Rattle.targets.specs.Marks.{MarkedBelow}
-use Rattle.verifier.proofs.Position.{Between}
+use Rattle.verifier.specs.Position.{before_block}
 use Rattle.verifier.proofs.marks.mark_targets.Given as goal
 
-abbrev pub invariant-loop-i : goal.invariant-loop-i
-invariant-loop-i l = record {
-  place : Between l.count.0 l.i.0 l.position;
-  marked : MarkedBelow (code_of l.file) l.i.0 l.marks;
-}
+abbrev pub invariant-loop-k : goal.invariant-loop-k
+invariant-loop-k l =
+    MarkedBelow (code_of l.code.file.now) (before_block l.k (length (code_of l.code.file.now))) l.marks
 
-abbrev pub decreases-loop-i : goal.decreases-loop-i
-decreases-loop-i l = l.count.0 - l.i.0
+abbrev pub invariant-loop-n : goal.invariant-loop-n
+invariant-loop-n l = MarkedBelow (code_of l.code.file.now) (block_code * l.k + l.n) l.marks

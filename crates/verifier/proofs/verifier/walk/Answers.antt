@@ -1,52 +1,37 @@
--- Each turn is at a block of the code, in the definition's state, and the walk over it decides.
-use Rattle.std.proofs.Common.{◌≡◌, length, refl, ◌∙◌, arith, rules}
-use Rattle.image.specs.Code.{code_of}
-use Rattle.targets.proofs.Bits.{none_marked}
-use Rattle.verifier.specs.Position.{BlockOf}
-use Rattle.verifier.proofs.Accepted.{count_is, next_block}
-use Rattle.verifier.proofs.Position.{between_first}
-use Rattle.verifier.proofs.Walk.{walked_first}
-use Rattle.verifier.proofs.Words.{unknown_words}
+-- Each turn is at an instruction of the code, in the definition's state, and what the visit tells decides.
+use Rattle.std.proofs.Common.{◌≡◌, ◌+◌, ◌*◌, replicate, suc, ap, ◌∙◌, arith}
+use Rattle.std.proofs.lemmas.Result.{err_from_is_err_and}
+use Rattle.image.specs.Format.{block_code}
+use Rattle.image.proofs.Valid.{valid_code}
+use Rattle.checks.specs.State.{register_count}
+use Rattle.verifier.proofs.Position.{none_before, behind}
+use Rattle.verifier.proofs.Walk.{walked_first, decided}
 use Rattle.verifier.proofs.verifier.walk.Goals as goal
 
-pub mark_targets-requires-clause-unmarked : goal.mark_targets-requires-clause-unmarked
-mark_targets-requires-clause-unmarked c = record { words = refl; none = none_marked }
+pub loop-k-init : goal.loop-k-init
+loop-k-init c = rw (none_before _) (walked_first (c.all-state.ensures ∙ ap (replicate register_count) c.unknown.ensures))
 
-pub loop-i-init : goal.loop-i-init
-loop-i-init c =
-    record {
-      place = between_first _;
-      walked = walked_first (unknown_words _ (c.word_of-state.ensures ∙ c.unknown.ensures));
-    }
+pub arrive-requires : goal.arrive-requires
+arrive-requires c = omega (arith, (valid_code _ _ c.args.code.accepted).1)
 
-pub walk_block-answer-requires : goal.walk_block-answer-requires
-walk_block-answer-requires c =
-    let count = count_is _ _ c.requires _ c.from-count.ensures in
-    record {
-      block =
-          record {
-            accepted = c.requires;
-            inside = omega arith;
-            at = c.loop-i.invariant.place.at (search rules);
-          };
-      marked = c.mark_targets.ensures;
-      walked = c.loop-i.invariant.walked;
-    }
+pub returns-in_err-answer_at : goal.returns-in_err-answer_at
+returns-in_err-answer_at c =
+    let decides =
+    decided _ c.loop-n.invariant (omega arith) (valid_code _ _ c.args.code.accepted).1 c.instruction-h.ensures.number
+    c.instruction-h.ensures.halfword c.mark_targets.ensures c.arrive.ensures c.from-a.ensures c.visit.ensures
+    c.answer_at.ensures in
+    let p = err_from_is_err_and c.from_residual.result c.from_residual.ensures.1 in
+    rw (p.1, p.2) (decides.fails _ c.in_err-answer_at.was)
 
-pub loop-i-preserved : goal.loop-i-preserved
-loop-i-preserved c =
-    let count = count_is _ _ c.requires _ c.from-count.ensures in
-    let block : BlockOf c.args.file.now c.args.layout c.loop-i.i.0 c.loop-i.position =
-    record {
-      accepted = c.requires;
-      inside = omega arith;
-      at = c.loop-i.invariant.place.at (search rules);
-    } in
-    let next = next_block block c.from-count.ensures c.block_end-i.ensures in
-    record { place = next.between; walked = rw (c.in_default.is, next.is_end) at c.walk_block-answer.ensures }
+pub loop-n-preserved : goal.loop-n-preserved
+loop-n-preserved c =
+    let next : block_code * c.loop-k.k + (c.loop-n.n + 1) ≡ suc (block_code * c.loop-k.k + c.loop-n.n) = omega arith in
+    let decides =
+    decided _ c.loop-n.invariant (omega arith) (valid_code _ _ c.args.code.accepted).1 c.instruction-h.ensures.number
+    c.instruction-h.ensures.halfword c.mark_targets.ensures c.arrive.ensures c.from-a.ensures c.visit.ensures
+    c.answer_at.ensures in
+    rw next (decides.passes c.in_ok-answer_at.was)
 
 pub check_end-requires : goal.check_end-requires
 check_end-requires c =
-    let count = count_is _ _ c.requires _ c.from-count.ensures in
-    let at_end : c.loop-i.i.0 ≡ length (code_of c.args.file.now) = omega (arith, c.loop-i.invariant.place.to) in
-    record { accepted = c.requires; passed = rw at_end at c.loop-i.invariant.walked.passed }
+    rw (behind _ _ c.args.code.accepted c.loop-k.k (omega arith)) at c.loop-k.invariant.passed

@@ -1,16 +1,14 @@
--- So far no check has failed but 14, the state is the definition's, and instruction i stands at the start of a block.
-use Rattle.std.proofs.Common.{◌-◌}
+-- So far no check has failed but 14, and the state is the definition's.
+use Rattle.std.proofs.Common.{length, ◌+◌, ◌*◌}
 use Rattle.image.specs.Code.{code_of}
+use Rattle.image.specs.Format.{block_code}
+use Rattle.verifier.specs.Position.{before_block}
 use Rattle.verifier.specs.Progress.{Walked}
-use Rattle.verifier.specs.Words.{state_of}
-use Rattle.verifier.proofs.Position.{Between}
 use Rattle.verifier.proofs.verifier.walk.Given as goal
 
-abbrev pub invariant-loop-i : goal.invariant-loop-i
-invariant-loop-i l = record {
-  place : Between l.count.0 l.i.0 l.position;
-  walked : Walked (code_of l.file) l.layout l.i.0 (state_of l.state);
-}
+abbrev pub invariant-loop-k : goal.invariant-loop-k
+invariant-loop-k l =
+    Walked (code_of l.code.file.now) l.code.layout (before_block l.k (length (code_of l.code.file.now))) l.state
 
-abbrev pub decreases-loop-i : goal.decreases-loop-i
-decreases-loop-i l = l.count.0 - l.i.0
+abbrev pub invariant-loop-n : goal.invariant-loop-n
+invariant-loop-n l = Walked (code_of l.code.file.now) l.code.layout (block_code * l.k + l.n) l.state
