@@ -7,7 +7,6 @@ use mathlib.Core.Logic.{◌⊎◌, inl, inr, ⊎_elim}
 use Prim.Native.Nat.{ℕ, zero, suc, ◌+◌, ◌-◌, ◌*◌, ◌/◌, ◌%◌, ◌<◌, ◌≤◌}
 use native.Mathlib.Omega.{arith}
 use lib.Dec.{ltb}
-use lib.ListN.{length, length-append}
 use borrow.Author.Tests.{ltb-true, ltb-false, lt-ltb, le-ltb, le-leb, ne_eqb}
 use Rattle.text.specs.Text.{Text, is_digit, every, digits_after, is_number, number_of, digit, decimal}
 use Rattle.text.proofs.Words.{and_left, and_right, every_append}
@@ -113,7 +112,7 @@ decimal_within_is n h = go (ltb n 10) (ltb n 100) (ltb n 1000) (ltb n 10000) ref
     go false false false true p q r s = four_digits n (ltb-false n 1000 r) (ltb-true n 10000 s)
     go false false false false p q r s = five_digits n (ltb-false n 10000 s) h
 
--- digits, and at most five, whatever the number is
+-- digits, whatever the number is
 digit_is : (d : ℕ) → d < 10 → is_digit (48 + d) ≡ true
 digit_is d h = simp (le-leb 48 (48 + d) (omega arith), le-leb (48 + d) 57 (omega arith))
 
@@ -123,13 +122,6 @@ digit_digits n unit = go (ltb n unit)
     go : (b : Bool) → every is_digit (cond b [] ((48 + n / unit % 10) ∷ [])) ≡ true
     go true = refl
     go false = simp (digit_is (n / unit % 10) (omega arith))
-
-digit_length : (n unit : ℕ) → length (digit n unit) ≤ 1
-digit_length n unit = go (ltb n unit)
-  where
-    go : (b : Bool) → length (cond b [] ((48 + n / unit % 10) ∷ [])) ≤ 1
-    go true = omega arith
-    go false = omega arith
 
 module _ (n : ℕ) where
   -- what stands before the ones
@@ -145,16 +137,6 @@ module _ (n : ℕ) where
       (digit_digits n 100))
       (digit_digits n 10))
       (simp (digit_is (n % 10) (omega arith)))
-
-  pub decimal_length : length (decimal n) ≤ 5
-  decimal_length =
-      rw (length-append, length-append, length-append, length-append) (omega (
-        arith,
-        digit_length n 10000,
-        digit_length n 1000,
-        digit_length n 100,
-        digit_length n 10,
-      ))
 
 -- n has at most k digits
 abbrev Short : ℕ → ℕ → Type 0

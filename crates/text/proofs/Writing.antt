@@ -5,7 +5,7 @@ use Rattle.std.proofs.Common.{length-append, length-set}
 use Rattle.std.proofs.Math.Seq.{length-sets, take-append_seam}
 use Rattle.std.proofs.lemmas.List.{length-take-le}
 use Rattle.std.proofs.lemmas.List.Edits.{sets-eq}
-use borrow.Author.Tests.{lt-ltb, le-ltb}
+use borrow.Author.Tests.{lt-ltb}
 use borrow.Rule.Slice.Mut.{set_vals}
 use borrow.Rule.Slice.PartMut.{put_mid}
 use lib.Dec.{ltb}
@@ -89,9 +89,6 @@ grew_front {t} {v} fits g = rw (g.place, g.room) (written_front v.at t v.room.no
 -- a digit that isn't there, and one that is
 pub digit_none : (n unit : ℕ) → n < unit → digit n unit ≡ []
 digit_none n unit h = simp (lt-ltb n unit h)
-
-pub digit_one : (n unit : ℕ) → unit ≤ n → length (digit n unit) ≡ 1
-digit_one n unit h = simp (le-ltb n unit h)
 
 pub digit_short : (n unit : ℕ) → n < unit → length (digit n unit) ≡ 0
 digit_short n unit h = ap length (digit_none n unit h)

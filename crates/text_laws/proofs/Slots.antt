@@ -13,7 +13,8 @@ use Rattle.units.proofs.Every as Every
 use Rattle.text.specs.Text.{is_digit, is_capital, is_small, in_word, in_name, every, decimal, is_name, name_of}
 use Rattle.text.specs.Text.{digits_after}
 use Rattle.text.proofs.Words.{or_right, every_weak}
-use Rattle.text.proofs.Decimal.{decimal_digits, decimal_number, decimal_value, decimal_length, letter_injective}
+use Rattle.text.proofs.Decimal.{decimal_digits, decimal_number, decimal_value, letter_injective}
+use Rattle.text.proofs.Writing.{decimal_at_most}
 use Rattle.syntax.specs.Syntax.{number_value, register_value, condition_value, name_value, slot_value, slot_word}
 use Rattle.syntax.specs.Syntax.{register_word, label_word, condition_word}
 use Rattle.syntax.proofs.Rows.{T_true}
@@ -64,7 +65,7 @@ unfolding name_value is_name
 label_read a =
     let d : every in_name (decimal a) ≡ true
     = every_weak is_digit in_name (λ c. or_right (is_small c) (is_digit c)) (decimal a) (decimal_digits a) in
-    let l : length (decimal a) ≤ 7 = omega (arith, decimal_length a) in
+    let l : length (decimal a) ≤ 7 = omega (arith, decimal_at_most a) in
     simp (d, le-leb (length (decimal a)) 7 l)
 
 pub label : (a : ℕ) → Reads (code "l") a (name_of (label_word a))
