@@ -17,7 +17,7 @@ pub(crate) struct Accepted<'a> {
     pub layout: Layout,
     ghost accepted: { check_of file.now ≡ Ok layout },
     ghost some_code: { 1 ≤ length (code_of file.now) },
-    ghost most_code: { length (code_of file.now) ≤ most_code },
+    ghost fits: { length (code_of file.now) ≤ most_code },
 }
 
 impl Accepted<'_> {
@@ -51,9 +51,7 @@ impl Accepted<'_> {
         ensures halfword { result.1 ≡ get_or (code_of self.entry.file.now) (block_code * k + n) 0 }
     {
         let i = InstructionIndex((BLOCK_CODE * k + n) as u16);
-        (
-            i,
-            halfword_at(self.file, BLOCK_BYTES * k + HEADER_BYTES + 2 * n),
-        )
+        let h = halfword_at(self.file, BLOCK_BYTES * k + HEADER_BYTES + 2 * n);
+        (i, h)
     }
 }

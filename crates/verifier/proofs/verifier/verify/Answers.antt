@@ -8,5 +8,5 @@ use Rattle.std.specs.Prelude.{Ok}
 pub invariant_of-walk : goal.invariant_of-walk
 invariant_of-walk c =
     let ok : check_of c.args.file.now ≡ Ok c.in_ok-layout.layout = sym c.check.ensures ∙ c.in_ok-layout.was in
-    let fits = valid_code _ _ ok in
-    record { accepted = ok; some_code = fits.0; most_code = fits.1 }
+    let right = valid_code _ _ ok in
+    record { accepted = ok; some_code = right.0; fits = right.1 }

@@ -13,7 +13,7 @@ loop-k-init c =
 pub returns-in_err-answer_at : goal.returns-in_err-answer_at
 returns-in_err-answer_at c =
     let decides =
-    decided _ c.loop-n.invariant (omega arith) c.args.code.most_code c.instruction-h.ensures.number
+    decided _ c.loop-n.invariant (omega arith) c.args.code.fits c.instruction-h.ensures.number
     c.instruction-h.ensures.halfword c.mark_targets.ensures c.arrive.ensures c.from-a.ensures c.visit.ensures
     c.answer_at.ensures in
     let p = err_from_is_err_and c.from_residual.result c.from_residual.ensures.1 in
@@ -22,7 +22,7 @@ returns-in_err-answer_at c =
 pub loop-n-preserved : goal.loop-n-preserved
 loop-n-preserved c =
     let decides =
-    decided _ c.loop-n.invariant (omega arith) c.args.code.most_code c.instruction-h.ensures.number
+    decided _ c.loop-n.invariant (omega arith) c.args.code.fits c.instruction-h.ensures.number
     c.instruction-h.ensures.halfword c.mark_targets.ensures c.arrive.ensures c.from-a.ensures c.visit.ensures
     c.answer_at.ensures in
     rw (next_number _ _) (decides.passes c.in_ok-answer_at.was)
