@@ -1,7 +1,6 @@
 -- Each turn is at an instruction of the code, in the definition's state, and what the visit tells decides.
 use Rattle.std.proofs.Common.{replicate, ap, ◌∙◌, arith}
 use Rattle.std.proofs.lemmas.Result.{err_from_is_err_and}
-use Rattle.image.proofs.Valid.{valid_code}
 use Rattle.checks.specs.State.{register_count}
 use Rattle.verifier.proofs.Position.{none_before, next_number, behind}
 use Rattle.verifier.proofs.Walk.{walked_first, decided}
@@ -11,13 +10,10 @@ pub loop-k-init : goal.loop-k-init
 loop-k-init c =
     rw (none_before _) (walked_first (c.all-state.ensures ∙ ap (replicate register_count) c.unknown.ensures))
 
-pub arrive-requires : goal.arrive-requires
-arrive-requires c = omega (arith, (valid_code _ _ c.args.code.accepted).1)
-
 pub returns-in_err-answer_at : goal.returns-in_err-answer_at
 returns-in_err-answer_at c =
     let decides =
-    decided _ c.loop-n.invariant (omega arith) (valid_code _ _ c.args.code.accepted).1 c.instruction-h.ensures.number
+    decided _ c.loop-n.invariant (omega arith) c.args.code.fits c.instruction-h.ensures.number
     c.instruction-h.ensures.halfword c.mark_targets.ensures c.arrive.ensures c.from-a.ensures c.visit.ensures
     c.answer_at.ensures in
     let p = err_from_is_err_and c.from_residual.result c.from_residual.ensures.1 in
@@ -26,7 +22,7 @@ returns-in_err-answer_at c =
 pub loop-n-preserved : goal.loop-n-preserved
 loop-n-preserved c =
     let decides =
-    decided _ c.loop-n.invariant (omega arith) (valid_code _ _ c.args.code.accepted).1 c.instruction-h.ensures.number
+    decided _ c.loop-n.invariant (omega arith) c.args.code.fits c.instruction-h.ensures.number
     c.instruction-h.ensures.halfword c.mark_targets.ensures c.arrive.ensures c.from-a.ensures c.visit.ensures
     c.answer_at.ensures in
     rw (next_number _ _) (decides.passes c.in_ok-answer_at.was)
