@@ -7,7 +7,7 @@ use Rattle.isa.specs.declared.instruction.Instruction.TheVariants.{AddHigh, CmpH
 use Rattle.isa.specs.declared.instruction.Instruction.TheVariants.{Ldrb, AddPc, Branch, Halt}
 use Rattle.isa.specs.declared.instruction.Instruction.{Instruction}
 
--- the entry at a place of a table; past its end, `Undefined`
+-- the entry at a place of a table; past its end, nothing
 abbrev pub entry : List (Option Instruction) → ℕ → Option Instruction
 entry [] n = None
 entry (d ∷ ds) zero = d
