@@ -15,11 +15,10 @@ ghost use Rattle.cpu.specs.Held.{held, unnoted, told_decoded, Leads, Beside, bra
 
 use super::held::Executed;
 use super::instructions;
-use super::memory::Memory;
 use super::outcome::{Outcome, Stop};
 use alu::Control;
 use traffic::Log;
-use units::{bits, halfword_at};
+use units::{Memory, bits, halfword_at};
 
 // HALT, or a halfword that only begins like it.
 fn execute_halt(k: Control, h: u16) -> Executed

@@ -11,11 +11,11 @@ ghost use Rattle.cpu.specs.Step.{mov_imm_of, mov_high_of, neg_of, tst_of};
 ghost use Rattle.cpu.specs.Held.{held, branched, told_of, Leads};
 
 use super::held::{Executed, write, write_low};
-use super::memory::{Memory, load_byte, store_byte};
+use super::memory::{load_byte, store_byte};
 use super::outcome::Stop;
 use alu::{Control, difference, shift, sum};
 use traffic::{Log, Traffic};
-use units::{ByteAddress, bits, halfword_at, high_rd, high_rs, put_halfword};
+use units::{ByteAddress, Memory, bits, halfword_at, high_rd, high_rs, put_halfword};
 
 // Puts the PC where ADD, CMP and MOV find it when they name R15: the address of
 // the instruction itself.

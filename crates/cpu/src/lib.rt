@@ -12,5 +12,4 @@ mod outcome;
 pub use executor::fetch_and_execute;
 pub use held::Executed;
 pub use machine::Machine;
-pub use memory::Memory;
 pub use outcome::{Outcome, Stop};

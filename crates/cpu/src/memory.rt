@@ -2,9 +2,7 @@
 ghost use Rattle.std.specs.Prelude.{◌≡◌};
 ghost use Rattle.units.specs.Bytes.{byte_at, with_byte};
 
-use units::MEMORY_BYTES;
-
-pub type Memory = [u8; MEMORY_BYTES];
+use units::Memory;
 
 pub(crate) fn load_byte(memory: &Memory, a: u16) -> u16
     ensures { result ≡ byte_at memory.now a }

@@ -6,13 +6,12 @@ ghost use Rattle.image.specs.Format.{block_bytes, block_code, header_bytes};
 ghost use Rattle.loader.specs.Copy.{IsCopied, code_part, with_part, cleared};
 
 use image::{BLOCK_BYTES, BLOCK_CODE, HEADER_BYTES};
-use units::{ByteAddress, InstructionIndex};
+use units::{ByteAddress, InstructionIndex, Memory};
 
 // Copies the first `n` instructions of block `k` to where they go: they lie in
 // one row, in the file and in memory.
-fn copy_block(file: &[u8], memory: &mut [u8], k: usize, n: usize)
+fn copy_block(file: &[u8], memory: &mut Memory, k: usize, n: usize)
     requires in_memory { 2 * (block_code * k + n) ≤ memory_bytes }
-    requires memory_len { length memory.old ≡ memory_bytes }
     requires first { block_code * k < 65536 }
     requires in_file { block_bytes * k + header_bytes + 2 * n ≤ length file.now }
     ensures { memory.new ≡ with_part (2 * (block_code * k)) (code_part file.now k n) memory.old }
@@ -24,8 +23,8 @@ fn copy_block(file: &[u8], memory: &mut [u8], k: usize, n: usize)
 }
 
 // Copies the first `count` instructions of a file to address 0, block by block.
-pub(crate) fn copy_code(file: &[u8], memory: &mut [u8], count: InstructionIndex)
-    requires count_bound { (2 * count.0 ≤ memory_bytes) × (length memory.old ≡ memory_bytes) }
+pub(crate) fn copy_code(file: &[u8], memory: &mut Memory, count: InstructionIndex)
+    requires count_bound { 2 * count.0 ≤ memory_bytes }
     requires by_index { (i : ℕ) → i < count.0 → code_position i + 2 ≤ length file.now }
     ensures { IsCopied file.now count.0 memory.old memory.new }
 {
@@ -36,7 +35,7 @@ pub(crate) fn copy_code(file: &[u8], memory: &mut [u8], count: InstructionIndex)
     }
 }
 
-// Sets every byte that it is lent to 0.
+// Sets every byte that it is lent to 0: a window is lent to it.
 pub(crate) fn clear(part: &mut [u8])
     ensures { part.new ≡ replicate (length part.old) 0 }
 {

@@ -1,18 +1,16 @@
 // The load of a program: checks first, then memory.
-ghost use Rattle.std.specs.Prelude.{◌≡◌, length, Ok};
-ghost use Rattle.units.specs.Address.{memory_bytes};
+ghost use Rattle.std.specs.Prelude.{◌≡◌, Ok};
 ghost use Rattle.verifier.specs.Verify.{verify_of};
 ghost use Rattle.loader.specs.Load.{load_of, memory_after_load, loaded_memory};
 
 use super::copy::{clear_window, copy_code};
 use image::Layout;
 use refusals::{Check, Refusal};
-use units::MEMORY_BYTES;
+use units::Memory;
 
 // Puts the code of a fit file to address 0 and clears its window.
-fn place(file: &[u8], layout: Layout, memory: &mut [u8])
-    requires file_value { verify_of file.now ≡ Ok layout }
-    requires memory_len { length memory.old ≡ memory_bytes }
+fn place(file: &[u8], layout: Layout, memory: &mut Memory)
+    requires { verify_of file.now ≡ Ok layout }
     ensures { memory.new ≡ loaded_memory file.now layout memory.old }
 {
     copy_code(file, memory, layout.count());
@@ -29,9 +27,9 @@ pub fn load(file: &[u8], memory: &mut [u8]) -> Result<Layout, Refusal>
     ensures { (result ≡ load_of file.now memory.old)
         × (memory.new ≡ memory_after_load file.now memory.old) }
 {
-    if memory.len() != MEMORY_BYTES {
+    let Some(memory) = memory.as_mut_array() else {
         return Err(Refusal::new(Check::MemorySize));
-    }
+    };
     let layout = verifier::verify(file)?;
     place(file, layout, memory);
     Ok(layout)

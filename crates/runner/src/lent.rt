@@ -12,9 +12,10 @@ ghost use Rattle.runner.specs.Lent.{lent, unnoted_run};
 
 use super::runs::RunOutcome;
 use alu::{Control, Status};
-use cpu::{Memory, Outcome, fetch_and_execute};
+use cpu::{Outcome, fetch_and_execute};
 use refusals::{Check, Refusal};
 use traffic::Log;
+use units::Memory;
 
 // The flags after a run, how it ended, and the steps completed.
 #[derive(Clone, Copy)]

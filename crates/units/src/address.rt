@@ -14,6 +14,8 @@ pub struct ByteAddress(pub u16);
 // The bytes of the machine's memory, one for each address.
 pub const MEMORY_BYTES: usize = 65536;
 
+pub type Memory = [u8; MEMORY_BYTES];
+
 // Where an instruction stands: twice its number. A number above 32,767 wraps,
 // as every address of this machine does.
 impl From<InstructionIndex> for ByteAddress {

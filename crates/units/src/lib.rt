@@ -6,6 +6,6 @@ mod address;
 mod bytes;
 mod fields;
 
-pub use address::{ByteAddress, InstructionIndex, MEMORY_BYTES};
+pub use address::{ByteAddress, InstructionIndex, MEMORY_BYTES, Memory};
 pub use bytes::{halfword_at, put_halfword};
 pub use fields::{bits, high_rd, high_rs};

@@ -7,7 +7,7 @@ ghost use Rattle.image.specs.Format.{block_code, most_code};
 ghost use Rattle.verifier.specs.Position.{before_block};
 
 use image::{BLOCK_BYTES, BLOCK_CODE, HEADER_BYTES, Layout};
-use units::{ByteAddress, InstructionIndex, halfword_at};
+use units::{InstructionIndex, halfword_at};
 
 // A file that checks 2 to 8 accept, and what it says of itself. Such a file has
 // some code, and no more than an image holds.
@@ -25,7 +25,7 @@ impl Accepted<'_> {
     pub(crate) fn count(self) -> u16
         ensures { result ≡ length (code_of self.entry.file.now) }
     {
-        InstructionIndex::from(ByteAddress(self.layout.code_bytes)).0
+        self.layout.count().0
     }
 
     // How many blocks they stand in.

@@ -3,4 +3,4 @@ use Rattle.verifier.proofs.Accepted.{count_is}
 use Rattle.verifier.proofs.code.Accepted.count.Goals as goal
 
 pub returns : goal.returns
-returns c = count_is _ _ c.args.self.accepted _ c.from.ensures
+returns c = count_is _ _ c.args.self.accepted _ c.count.ensures
