@@ -79,7 +79,9 @@ fn assemble_with(
 
 // The same with so many places of the table of labels, and room for the notes of
 // so many instructions. What a text doesn't need is cleared all the same, so a
-// short one gets little.
+// short one gets little; and each size is a function of its own, so that the stack
+// of a larger one isn't touched.
+#[inline(never)]
 fn assemble_in<const PLACES: usize, const CODE: usize>(
     text: &[u8],
     out: &mut [u16],

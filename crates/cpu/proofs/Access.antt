@@ -19,7 +19,7 @@ use Rattle.traffic.specs.Log.{with_access}
 use Rattle.cpu.specs.Step.{step_result, stopped, execute_of, ldr_of, ldrb_of, str_of, strb_of}
 use Rattle.alu.specs.Control.{flags_in, moved}
 use Rattle.cpu.specs.Held.{held, bare, told_of, Whole, Leads}
-use Rattle.cpu.proofs.Ends.{low_fields, advance_holds}
+use Rattle.cpu.proofs.Ends.{lows, goes}
 
 -- a control, and an ending beside it
 abbrev pub Gave : Executed → Control → Outcome → Type 0
@@ -44,7 +44,7 @@ stays regs memory log gave = leads regs memory log gave refl
 module _ (regs memory : List ℕ) (log : Log) (k : Control) (step h : ℕ) where
   -- the base register is as the array has it
   base_is : get_or (set regs 15 k.pc) (field h 3 3) 0 ≡ get_or regs (field h 3 3) 0
-  base_is = (low_fields regs k.pc h).0
+  base_is = (lows regs k.pc h).0
 
   -- what a step leads to that executes an instruction with these fields
   abbrev Does : (ℕ → ℕ → ℕ → Instruction) → List ℕ → Executed → List ℕ → Log → Type 0
@@ -62,11 +62,11 @@ module _ (regs memory : List ℕ) (log : Log) (k : Control) (step h : ℕ) where
   -- a store leaves the registers as they are, and the PC moves on
   stored : {k' : Control} → Whole regs → k' ≡ moved (wrap (k.pc + 2)) k
       → held regs k' ≡ bare (advanced (set regs 15 k.pc)) (flags_in k)
-  stored whole is = advance_holds regs k whole is (refl, refl)
+  stored whole is = goes regs k whole is (refl, refl)
 
   -- and takes what the array has
   value_is : {rd : ℕ} → rd ≡ field h 0 3 → get_or (set regs 15 k.pc) (field h 0 3) 0 ≡ get_or regs rd 0
-  value_is is = (low_fields regs k.pc h).1 ∙ rw is
+  value_is is = (lows regs k.pc h).1 ∙ rw is
 
   module _ {n : ℕ} (distance : n ≡ field h 6 5) where
     module _ {a : ℕ} (address : a ≡ wrap (get_or regs (field h 3 3) 0 + 4 * n)) where

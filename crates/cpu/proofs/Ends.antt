@@ -12,14 +12,14 @@ use Rattle.alu.specs.Control.{flags_in, moved}
 use Rattle.cpu.specs.Held.{bare, held, Whole}
 
 -- R0 to R7 are as the array has them
-pub low_is : (regs : List ℕ) (pc r : ℕ) → r < 8 → get_or (set regs 15 pc) r 0 ≡ get_or regs r 0
-low_is regs pc r low = get_or-set_other regs 15 r pc 0 (λ e. omega arith)
+pub as_is : (regs : List ℕ) (pc r : ℕ) → r < 8 → get_or (set regs 15 pc) r 0 ≡ get_or regs r 0
+as_is regs pc r low = get_or-set_other regs 15 r pc 0 (λ e. omega arith)
 
 -- so are the two registers that an operation's fields name
-pub low_fields : (regs : List ℕ) (pc h : ℕ)
+pub lows : (regs : List ℕ) (pc h : ℕ)
     → (get_or (set regs 15 pc) (field h 3 3) 0 ≡ get_or regs (field h 3 3) 0)
     × (get_or (set regs 15 pc) (field h 0 3) 0 ≡ get_or regs (field h 0 3) 0)
-low_fields regs pc h = (low_is regs pc (field h 3 3) (omega arith), low_is regs pc (field h 0 3) (omega arith))
+lows regs pc h = (as_is regs pc (field h 3 3) (omega arith), as_is regs pc (field h 0 3) (omega arith))
 
 module _ (regs : List ℕ) (pc : ℕ) (whole : Whole regs) where
   -- the PC is read back
@@ -49,18 +49,18 @@ module _ (regs : List ℕ) (k : Control) (rd x : ℕ) (whole : Whole regs) {k' :
   write_pc_holds named is = rw (is, write_pc_is regs k.pc whole rd x named)
 
 -- no result, with the flags as another control has them
-pub advance_holds : (regs : List ℕ) (g : Control) {k' : Control} {pc : ℕ} {f : Flags} → Whole regs
+pub goes : (regs : List ℕ) (g : Control) {k' : Control} {pc : ℕ} {f : Flags} → Whole regs
     → k' ≡ moved (wrap (g.pc + 2)) g → (g.pc ≡ pc) × (flags_in g ≡ f)
     → held regs k' ≡ bare (advanced (set regs 15 pc)) f
-advance_holds regs g {pc = pc} whole is flagged =
+goes regs g {pc = pc} whole is flagged =
     rw is (ap₂ bare (rw flagged.0 (moved_on regs pc whole)) flagged.1)
 
 -- a result, with the PC and the flags as another control has them
-pub flags_as : (l : List ℕ) (rd x : ℕ) {m : Machine} {pc pc' : ℕ} {f f' : Flags} → (pc ≡ pc') × (f ≡ f')
+pub same : (l : List ℕ) (rd x : ℕ) {m : Machine} {pc pc' : ℕ} {f f' : Flags} → (pc ≡ pc') × (f ≡ f')
     → m ≡ bare (written (set l 15 pc) rd x) f → m ≡ bare (written (set l 15 pc') rd x) f'
-flags_as l rd x same holds =
-    holds ∙ ap₂ (λ (pc : ℕ) (f : Flags). bare (written (set l 15 pc) rd x) f) same.0 same.1
+same l rd x alike holds =
+    holds ∙ ap₂ (λ (pc : ℕ) (f : Flags). bare (written (set l 15 pc) rd x) f) alike.0 alike.1
 
 -- the array has the PC at 15 when an instruction that may name R15 has shown it; what it had there before doesn't count
-pub set_again : (regs : List ℕ) (pc : ℕ) → set (set regs 15 pc) 15 pc ≡ set regs 15 pc
-set_again regs pc = set-set regs 15 pc pc
+pub anew : (regs : List ℕ) (pc : ℕ) → set (set regs 15 pc) 15 pc ≡ set regs 15 pc
+anew regs pc = set-set regs 15 pc pc

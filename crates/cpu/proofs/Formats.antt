@@ -38,14 +38,16 @@ module _ (first : Machine) (memory : List ℕ) (log : Log) (step : ℕ) where
   arm {regs = regs} is does gave holds = rw (is, does) (leads regs memory log gave holds)
 
 -- a halfword that means nothing
-pub none : (d : Option Instruction) (k : Control) (e : Executed) → d ≡ None → Gave e k (Stopped stop.Undefined) → Beside e k d
+pub none : (d : Option Instruction) (k : Control) (e : Executed) → d ≡ None → Gave e k (Stopped stop.Undefined)
+    → Beside e k d
 none d k e is gave regs memory log step whole = rw is (stays regs memory log gave)
 
 pub halts : (h : ℕ) (k : Control) → h < 256 → Beside (record { control = k; outcome = Halted }) k (halt_of h)
 unfolding execute_of
 halts h k is regs memory log step whole = simp (lt-ltb h 256 is) (record { result = refl; logs = refl })
 
-pub no_halt : (h : ℕ) (k : Control) (e : Executed) → 256 ≤ h → Gave e k (Stopped stop.Undefined) → Beside e k (halt_of h)
+pub no_halt : (h : ℕ) (k : Control) (e : Executed) → 256 ≤ h → Gave e k (Stopped stop.Undefined)
+    → Beside e k (halt_of h)
 no_halt h k e other gave = none (halt_of h) k e (simp (le-ltb h 256 other)) gave
 
 -- what a branch leaves beside the registers is what it does

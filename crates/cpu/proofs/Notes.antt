@@ -59,7 +59,8 @@ module _ (n : ℕ) (m : Machine) (memory : List ℕ) where
   execute_note (Branch condition offset) = refl
   execute_note (Halt note) = refl
 
-  decoded_note : (d : Option Instruction) → execute_decoded d (with_note n m) memory ≡ relabelled n (execute_decoded d m memory)
+  decoded_note : (d : Option Instruction)
+      → execute_decoded d (with_note n m) memory ≡ relabelled n (execute_decoded d m memory)
   decoded_note (Some i) = execute_note i
   decoded_note None = refl
 

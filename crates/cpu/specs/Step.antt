@@ -180,7 +180,8 @@ low_byte s = byte_at s.memory (pc s.machine)
 
 -- an odd PC: stop 18
 unfoldable pub fetch_and_execute : Machine → List ℕ → StepResult
-fetch_and_execute m memory = cond (pc m % 2 == 0) (execute_decoded (fetched m memory) m memory) (stopped stop.OddPc m memory)
+fetch_and_execute m memory =
+    cond (pc m % 2 == 0) (execute_decoded (fetched m memory) m memory) (stopped stop.OddPc m memory)
 
 -- check 1 comes first: a memory of any other size is refused, and nothing changes
 unfoldable pub step_of : Machine → List ℕ → StepResult

@@ -4,6 +4,8 @@
 // instructions themselves. For the same reason few tests are on the way: ten
 // bits tell an operation on registers, five all else but a branch, and a
 // branch's upper byte its condition.
+// Registers, control, memory, log and step are parameters of their own: of a struct
+// with the three `&mut` each contract would have to say that it still holds them.
 ghost use Rattle.std.specs.Prelude.{◌≡◌};
 ghost use Rattle.isa.specs.Decode.{halt_of, decode_of};
 ghost use Rattle.cpu.specs.Step.{step_result, step_of};

@@ -39,6 +39,7 @@ impl Executed {
 }
 
 // Ends an instruction that has a result for one of R0 to R7.
+#[tactic(auto, using(crate::proofs::Ends::write_holds))]
 pub(crate) fn write_low(regs: &mut [u16; 16], k: Control, rd: u8, x: u16) -> Control
     requires { rd < 8 }
     ensures { held regs.new result ≡ bare (written (slice_set regs.old 15 k.pc) rd x) (flags_in k) }
@@ -50,6 +51,7 @@ pub(crate) fn write_low(regs: &mut [u16; 16], k: Control, rd: u8, x: u16) -> Con
 // Ends an instruction that has a result for any register; one for R15 is the
 // next PC. The array is written in one arm only: else the compiler chooses
 // between the two PCs with no jump, and each fetch waits for the result.
+#[tactic(auto, using(crate::proofs::Ends::write_holds, crate::proofs::Ends::write_pc_holds))]
 pub(crate) fn write(regs: &mut [u16; 16], k: Control, rd: u8, x: u16) -> Control
     requires { rd < 16 }
     ensures { held regs.new result ≡ bare (written (slice_set regs.old 15 k.pc) rd x) (flags_in k) }

@@ -26,6 +26,7 @@ fn show_pc(regs: &mut [u16; 16], k: Control)
 }
 
 // Ends an instruction with a result for one of R0 to R7 of which N and Z speak.
+#[tactic(auto, using(crate::proofs::Ends::same))]
 fn leave(regs: &mut [u16; 16], k: Control, rd: u8, r: u16) -> Control
     requires { rd < 8 }
     ensures { held regs.new result ≡ resulting rd r (held regs.old k) }
@@ -34,6 +35,7 @@ fn leave(regs: &mut [u16; 16], k: Control, rd: u8, r: u16) -> Control
 }
 
 // ADD(1) of two of R0 to R7.
+#[tactic(auto, using(crate::proofs::Ends::lows, crate::proofs::Ends::same), unfolding(crate::specs::Step::add_high_of))]
 pub(crate) fn add_low(regs: &mut [u16; 16], k: Control, h: u16) -> Control
     ensures { held regs.new result ≡ add_high_of (field h 3 3) (field h 0 3) (held regs.old k) }
 {
@@ -44,6 +46,7 @@ pub(crate) fn add_low(regs: &mut [u16; 16], k: Control, h: u16) -> Control
 }
 
 // ADD(1) of any two registers.
+#[tactic(auto, using(crate::proofs::Ends::anew, crate::proofs::Ends::same), unfolding(crate::specs::Step::add_high_of))]
 pub(crate) fn add_high(regs: &mut [u16; 16], k: Control, h: u16) -> Control
     ensures { held regs.new result ≡ add_high_of (high_rs h) (high_rd h) (held regs.old k) }
 {
@@ -55,6 +58,7 @@ pub(crate) fn add_high(regs: &mut [u16; 16], k: Control, h: u16) -> Control
 }
 
 // ADD(2).
+#[tactic(auto, using(crate::proofs::Ends::pc_is), unfolding(crate::specs::Step::add_pc_of))]
 pub(crate) fn add_pc(regs: &mut [u16; 16], k: Control, h: u16) -> Control
     ensures { held regs.new result ≡ add_pc_of (field h 8 3) (field h 0 8) (held regs.old k) }
 {
@@ -63,6 +67,7 @@ pub(crate) fn add_pc(regs: &mut [u16; 16], k: Control, h: u16) -> Control
 }
 
 // AND.
+#[tactic(auto, using(crate::proofs::Ends::lows), unfolding(crate::specs::Step::and_of))]
 pub(crate) fn and(regs: &mut [u16; 16], k: Control, h: u16) -> Control
     ensures { held regs.new result ≡ and_of (field h 3 3) (field h 0 3) (held regs.old k) }
 {
@@ -71,6 +76,7 @@ pub(crate) fn and(regs: &mut [u16; 16], k: Control, h: u16) -> Control
 }
 
 // ASR: both operands are read before Rd is written.
+#[tactic(auto, using(crate::proofs::Ends::lows, crate::proofs::Ends::same), unfolding(crate::specs::Step::asr_of))]
 pub(crate) fn asr(regs: &mut [u16; 16], k: Control, h: u16) -> Control
     ensures { held regs.new result ≡ asr_of (field h 3 3) (field h 0 3) (held regs.old k) }
 {
@@ -93,6 +99,7 @@ pub(crate) fn branch(k: Control, holds: bool, h: u16) -> Control
 }
 
 // CMP(1).
+#[tactic(auto, using(crate::proofs::Ends::as_is, crate::proofs::Ends::goes), unfolding(crate::specs::Step::cmp_imm_of))]
 pub(crate) fn cmp_imm(regs: &[u16; 16], k: Control, h: u16) -> Control
     ensures { held regs.now result ≡ cmp_imm_of (field h 8 3) (field h 0 8) (held regs.now k) }
 {
@@ -101,6 +108,7 @@ pub(crate) fn cmp_imm(regs: &[u16; 16], k: Control, h: u16) -> Control
 }
 
 // CMP(2).
+#[tactic(auto, using(crate::proofs::Ends::lows, crate::proofs::Ends::goes), unfolding(crate::specs::Step::cmp_of))]
 pub(crate) fn cmp(regs: &[u16; 16], k: Control, h: u16) -> Control
     ensures { held regs.now result ≡ cmp_of (field h 3 3) (field h 0 3) (held regs.now k) }
 {
@@ -110,6 +118,7 @@ pub(crate) fn cmp(regs: &[u16; 16], k: Control, h: u16) -> Control
 }
 
 // CMP(3).
+#[tactic(auto, using(crate::proofs::Ends::anew, crate::proofs::Ends::goes), unfolding(crate::specs::Step::cmp_high_of))]
 pub(crate) fn cmp_high(regs: &mut [u16; 16], k: Control, h: u16) -> Control
     ensures { held regs.new result ≡ cmp_high_of (high_rs h) (high_rd h) (held regs.old k) }
 {
@@ -120,6 +129,7 @@ pub(crate) fn cmp_high(regs: &mut [u16; 16], k: Control, h: u16) -> Control
 }
 
 // EOR.
+#[tactic(auto, using(crate::proofs::Ends::lows), unfolding(crate::specs::Step::eor_of))]
 pub(crate) fn eor(regs: &mut [u16; 16], k: Control, h: u16) -> Control
     ensures { held regs.new result ≡ eor_of (field h 3 3) (field h 0 3) (held regs.old k) }
 {
@@ -177,6 +187,7 @@ pub(crate) fn ldrb(
 }
 
 // MOV(1).
+#[tactic(auto, unfolding(crate::specs::Step::mov_imm_of))]
 pub(crate) fn mov_imm(regs: &mut [u16; 16], k: Control, h: u16) -> Control
     ensures { held regs.new result ≡ mov_imm_of (field h 8 3) (field h 0 8) (held regs.old k) }
 {
@@ -184,6 +195,7 @@ pub(crate) fn mov_imm(regs: &mut [u16; 16], k: Control, h: u16) -> Control
 }
 
 // MOV(2) of two of R0 to R7.
+#[tactic(auto, using(crate::proofs::Ends::lows), unfolding(crate::specs::Step::mov_high_of))]
 pub(crate) fn mov_low(regs: &mut [u16; 16], k: Control, h: u16) -> Control
     ensures { held regs.new result ≡ mov_high_of (field h 3 3) (field h 0 3) (held regs.old k) }
 {
@@ -192,6 +204,7 @@ pub(crate) fn mov_low(regs: &mut [u16; 16], k: Control, h: u16) -> Control
 }
 
 // MOV(2) of any two registers.
+#[tactic(auto, using(crate::proofs::Ends::anew, crate::proofs::Ends::same), unfolding(crate::specs::Step::mov_high_of))]
 pub(crate) fn mov_high(regs: &mut [u16; 16], k: Control, h: u16) -> Control
     ensures { held regs.new result ≡ mov_high_of (high_rs h) (high_rd h) (held regs.old k) }
 {
@@ -201,6 +214,7 @@ pub(crate) fn mov_high(regs: &mut [u16; 16], k: Control, h: u16) -> Control
 }
 
 // NEG.
+#[tactic(auto, using(crate::proofs::Ends::lows, crate::proofs::Ends::same), unfolding(crate::specs::Step::neg_of))]
 pub(crate) fn neg(regs: &mut [u16; 16], k: Control, h: u16) -> Control
     ensures { held regs.new result ≡ neg_of (field h 3 3) (field h 0 3) (held regs.old k) }
 {
@@ -253,6 +267,7 @@ pub(crate) fn strb(
 }
 
 // TST.
+#[tactic(auto, using(crate::proofs::Ends::lows, crate::proofs::Ends::goes), unfolding(crate::specs::Step::tst_of))]
 pub(crate) fn tst(regs: &[u16; 16], k: Control, h: u16) -> Control
     ensures { held regs.now result ≡ tst_of (field h 3 3) (field h 0 3) (held regs.now k) }
 {

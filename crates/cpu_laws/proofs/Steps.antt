@@ -25,7 +25,8 @@ step_whole s =
     (how_ends s.machine s.memory)
 
 -- a step from an even PC in a memory of the right size does what the halfword there says
-pub step_decoded : (m : Machine) (memory : List ℕ) (d : Option Instruction) → length memory ≡ memory_bytes → pc m % 2 ≡ 0
+pub step_decoded : (m : Machine) (memory : List ℕ) (d : Option Instruction) → length memory ≡ memory_bytes
+    → pc m % 2 ≡ 0
     → fetched m memory ≡ d
     → step_of m memory ≡ execute_decoded d m memory
 unfolding step_of fetch_and_execute

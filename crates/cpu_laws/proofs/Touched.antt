@@ -40,12 +40,14 @@ use Rattle.cpu_laws.proofs.Lists.{set_here, set_alike}
 -- a halfword is stored at a multiple of 4, or stop 20 comes first
 abbrev stored : Machine → ℕ → ℕ → Bool → List ℕ → StepResult
 stored m a x t bytes =
-    cond t (completed (updated m (advanced m.regs) (flags m)) (with_halfword bytes a x)) (stopped stop.Misaligned m bytes)
+    cond t (completed (updated m (advanced m.regs) (flags m)) (with_halfword bytes a x))
+    (stopped stop.Misaligned m bytes)
 
 -- a halfword is loaded, or stop 20 comes first
 abbrev loaded : Machine → ℕ → ℕ → Bool → List ℕ → StepResult
 loaded m rd a t bytes =
-    cond t (completed (updated m (written m.regs rd (halfword_at bytes a)) (flags m)) bytes) (stopped stop.Misaligned m bytes)
+    cond t (completed (updated m (written m.regs rd (halfword_at bytes a)) (flags m)) bytes)
+    (stopped stop.Misaligned m bytes)
 
 -- ---- one memory
 

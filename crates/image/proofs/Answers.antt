@@ -45,40 +45,40 @@ unfolding first_no
 passed_head q qs e = ap (λ (t : Bool). cond t (first_no qs) (Err q.otherwise)) e
 
 -- where a row passes, so does its head, and so does its tail
-pub head_passed : (q : Asked) (qs : List Asked) → first_no (q ∷ qs) ≡ (Ok tt) → q.passed ≡ true
+pub head_passed : (q : Asked) (qs : List Asked) → first_no (q ∷ qs) ≡ Ok tt → q.passed ≡ true
 unfolding first_no
 head_passed q qs e = go q.passed e
   where
-    go : (t : Bool) → cond t (first_no qs) (Err q.otherwise) ≡ (Ok tt) → t ≡ true
+    go : (t : Bool) → cond t (first_no qs) (Err q.otherwise) ≡ Ok tt → t ≡ true
     go true e = refl
     go false e = clash (cc)
 
-pub tail_passed : (q : Asked) (qs : List Asked) → first_no (q ∷ qs) ≡ (Ok tt) → first_no qs ≡ (Ok tt)
+pub tail_passed : (q : Asked) (qs : List Asked) → first_no (q ∷ qs) ≡ Ok tt → first_no qs ≡ Ok tt
 unfolding first_no
 tail_passed q qs e = go q.passed e
   where
-    go : (t : Bool) → cond t (first_no qs) (Err q.otherwise) ≡ (Ok tt) → first_no qs ≡ (Ok tt)
+    go : (t : Bool) → cond t (first_no qs) (Err q.otherwise) ≡ Ok tt → first_no qs ≡ Ok tt
     go true e = e
     go false e = clash (cc)
 
-or_left : (a b : Result ⊤ Refusal) → or_else a b ≡ (Ok tt) → a ≡ (Ok tt)
+or_left : (a b : Result ⊤ Refusal) → or_else a b ≡ Ok tt → a ≡ Ok tt
 or_left (Ok tt) b e = refl
 or_left (Err r) b e = e
 
-or_right : (a b : Result ⊤ Refusal) → or_else a b ≡ (Ok tt) → b ≡ (Ok tt)
+or_right : (a b : Result ⊤ Refusal) → or_else a b ≡ Ok tt → b ≡ Ok tt
 or_right (Ok tt) b e = e
 or_right (Err r) b e = clash (cc)
 
-pub left_passed : (a b : List Asked) → first_no (a ++ b) ≡ (Ok tt) → first_no a ≡ (Ok tt)
+pub left_passed : (a b : List Asked) → first_no (a ++ b) ≡ Ok tt → first_no a ≡ Ok tt
 left_passed a b e = or_left (first_no a) (first_no b) (sym (first_append a b) ∙ e)
 
-pub right_passed : (a b : List Asked) → first_no (a ++ b) ≡ (Ok tt) → first_no b ≡ (Ok tt)
+pub right_passed : (a b : List Asked) → first_no (a ++ b) ≡ Ok tt → first_no b ≡ Ok tt
 right_passed a b e = or_right (first_no a) (first_no b) (sym (first_append a b) ∙ e)
 
 -- rows of checks
 module _ (row : ℕ → List Asked) where
   -- the rows before row n have passed: it decides
-  pub next : (n : ℕ) → first_no (rows_below row n) ≡ (Ok tt) → first_no (rows_below row (suc n)) ≡ first_no (row n)
+  pub next : (n : ℕ) → first_no (rows_below row n) ≡ Ok tt → first_no (rows_below row (suc n)) ≡ first_no (row n)
   unfolding rows_below
   next n e = first_append (rows_below row n) (row n) ∙ ap (λ (a : Result ⊤ Refusal). or_else a (first_no (row n))) e
 
@@ -88,27 +88,29 @@ module _ (row : ℕ → List Asked) where
   unfolding rows_below
   stands k n r h e =
       le_ind (λ (m : ℕ). first_no (rows_below row m) ≡ Err r) e
-      (λ m _ ih. first_append (rows_below row m) (row m) ∙ ap (λ (a : Result ⊤ Refusal). or_else a (first_no (row m))) ih)
+      (λ m _ ih.
+      first_append (rows_below row m) (row m) ∙ ap (λ (a : Result ⊤ Refusal). or_else a (first_no (row m))) ih)
       n h
 
   -- the rows before row k have passed, and a is what row k comes to
-  module _ (k : ℕ) (before : first_no (rows_below row k) ≡ (Ok tt)) (a : Result ⊤ Refusal) (is : a ≡ first_no (row k)) where
+  module _ (k : ℕ) (before : first_no (rows_below row k) ≡ Ok tt) (a : Result ⊤ Refusal)
+      (is : a ≡ first_no (row k)) where
     pub refused_at : (n : ℕ) (r : Refusal) → a ≡ Err r → k < n → Err r ≡ first_no (rows_below row n)
     refused_at n r e h = sym (stands (suc k) n r h (next k before ∙ sym is ∙ e))
 
-    pub passed_too : a ≡ (Ok tt) → first_no (rows_below row (k + 1)) ≡ (Ok tt)
+    pub passed_too : a ≡ Ok tt → first_no (rows_below row (k + 1)) ≡ Ok tt
     passed_too e = rw add-one (next k before ∙ sym is ∙ e)
 
   -- the rows pass exactly when each does
-  pub each_passed : (k n : ℕ) → k < n → first_no (rows_below row n) ≡ (Ok tt) → first_no (row k) ≡ (Ok tt)
+  pub each_passed : (k n : ℕ) → k < n → first_no (rows_below row n) ≡ Ok tt → first_no (row k) ≡ Ok tt
   unfolding rows_below
   each_passed k n h =
-      le_ind (λ (m : ℕ). first_no (rows_below row m) ≡ (Ok tt) → first_no (row k) ≡ (Ok tt))
+      le_ind (λ (m : ℕ). first_no (rows_below row m) ≡ Ok tt → first_no (row k) ≡ Ok tt)
       (right_passed (rows_below row k) (row k))
       (λ m _ ih e. ih (left_passed (rows_below row m) (row m) e))
       n h
 
-  pub all_passed : (n : ℕ) → ((k : ℕ) → k < n → first_no (row k) ≡ (Ok tt)) → first_no (rows_below row n) ≡ (Ok tt)
+  pub all_passed : (n : ℕ) → ((k : ℕ) → k < n → first_no (row k) ≡ Ok tt) → first_no (rows_below row n) ≡ Ok tt
   unfolding rows_below first_no
   all_passed zero each = refl
   all_passed (suc n) each = next n (all_passed n (λ k h. each k (omega arith))) ∙ each n (omega arith)

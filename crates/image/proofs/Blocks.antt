@@ -34,7 +34,7 @@ pub block_length : (file : List ℕ) (k : ℕ) → block_bytes * k + block_bytes
 unfolding block_of
 block_length file k h = length-take-le 512 (drop (512 * k) file) (simp length-drop (omega arith))
 
-byte_at : (file : List ℕ) (k p : ℕ) → p < block_bytes → get_or (block_of file k) p 0
+pub byte_at : (file : List ℕ) (k p : ℕ) → p < block_bytes → get_or (block_of file k) p 0
     ≡ get_or file (block_bytes * k + p) 0
 unfolding block_of
 byte_at file k p h = get_or-take 512 (drop (512 * k) file) p 0 h ∙ get_or-drop (512 * k) file p 0

@@ -50,7 +50,7 @@ unfolding check8
 window_right c w l e = let each = simp and-eq-true_iff at e in search (eqb-true, leb-true)
 
 valid_answer : (said layout : Layout) (a : Result ⊤ Refusal) → checked_as said a ≡ Ok layout
-    → (a ≡ (Ok tt)) × (layout ≡ said)
+    → (a ≡ Ok tt) × (layout ≡ said)
 valid_answer said layout (Ok tt) e = (refl, cc)
 valid_answer said layout (Err r) e = clash (cc)
 
@@ -60,7 +60,7 @@ position_in : (i b used : ℕ) → 1 ≤ b → used ≤ block_code → i < block
 position_in i b used hb hu hi = omega arith
 
 module _ (file : List ℕ) (layout : Layout) (valid : check_of file ≡ Ok layout) where
-  passed : (first_no (checks_of file) ≡ (Ok tt)) × (layout ≡ layout_of file)
+  passed : (first_no (checks_of file) ≡ Ok tt) × (layout ≡ layout_of file)
   unfolding check_of
   passed = valid_answer (layout_of file) layout (first_no (checks_of file)) valid
 
@@ -71,13 +71,13 @@ module _ (file : List ℕ) (layout : Layout) (valid : check_of file ≡ Ok layou
   valid_size = size_right file (head_passed _ _ passed.0)
 
   -- the checks behind check 2: those of the blocks, and check 8
-  blocks_passed : first_no (checks_below file (blocks_in file)) ≡ (Ok tt)
+  blocks_passed : first_no (checks_below file (blocks_in file)) ≡ Ok tt
   blocks_passed = left_passed _ (whole check.Window (layout_fits (layout_of file)) ∷ []) (tail_passed _ _ passed.0)
 
-  last_passed : first_no (whole check.Window (layout_fits (layout_of file)) ∷ []) ≡ (Ok tt)
+  last_passed : first_no (whole check.Window (layout_fits (layout_of file)) ∷ []) ≡ Ok tt
   last_passed = right_passed (checks_below file (blocks_in file)) _ (tail_passed _ _ passed.0)
 
-  pub valid_block : (k : ℕ) → k < blocks_in file → first_no (block_checks file k) ≡ (Ok tt)
+  pub valid_block : (k : ℕ) → k < blocks_in file → first_no (block_checks file k) ≡ Ok tt
   valid_block k h = each_passed (block_checks file) k (blocks_in file) h blocks_passed
 
   pub valid_fits : layout_fits layout ≡ true

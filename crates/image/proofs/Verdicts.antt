@@ -28,7 +28,7 @@ used_least true used e = leb-true 1 used ((and-eq-true_iff (leb 1 used) (leb use
 used_least false used e = let q = eqb-true used 249 e in omega arith
 
 -- a block that has passed uses as much as it should
-module _ (file : List ℕ) (k : ℕ) (e : first_no (block_checks file k) ≡ (Ok tt)) where
+module _ (file : List ℕ) (k : ℕ) (e : first_no (block_checks file k) ≡ Ok tt) where
   pub passed6 : check6 (eqb (k + 1) (blocks_in file)) (block_of file k) ≡ true
   passed6 = head_passed _ _ (tail_passed _ _ (tail_passed _ _ (tail_passed _ _ e)))
 
@@ -48,7 +48,7 @@ filled_full false block used q e = let is : used_of block ≡ block_code = cc in
 
 -- the last block of a file whose blocks have passed, and the layout of that file
 module _ (file : List ℕ) (blocks : ℕ) (last : List ℕ) (used : ℕ) where
-  pub last_used_most : blocks ≡ blocks_in file → 1 ≤ blocks → first_no (checks_below file blocks) ≡ (Ok tt)
+  pub last_used_most : blocks ≡ blocks_in file → 1 ≤ blocks → first_no (checks_below file blocks) ≡ Ok tt
       → last ≡ block_of file (blocks - 1) → used ≡ used_of last → used ≤ block_code
   last_used_most n h e b u =
       let row = each_passed (block_checks file) (blocks - 1) blocks (omega arith) e in
@@ -83,12 +83,15 @@ module _ (file : List ℕ) where
         ∙ first_append (checks_below file (blocks_in file)) last
         ∙ ap (λ (b : Result ⊤ Refusal). or_else b (first_no last)) e)
 
-    pub refused_block : (a : Result ⊤ Refusal) (r : Refusal) → a ≡ first_no (checks_below file (blocks_in file)) → a ≡ Err r
-        → Err r ≡ check_of file
+    pub refused_block : (a : Result ⊤ Refusal) (r : Refusal) → a ≡ first_no (checks_below file (blocks_in file))
+        → a ≡ Err r → Err r ≡ check_of file
     refused_block a r is e = sym (rest (Err r) (sym is ∙ e))
 
-    pub rest8 : (a : Result ⊤ Refusal) (layout : Layout) (r : Result Layout Refusal) → a ≡ first_no (checks_below file (blocks_in file))
-        → a ≡ (Ok tt) → layout ≡ layout_of file → r ≡ checked_as layout (first_no (whole check.Window (layout_fits layout) ∷ []))
-        → r ≡ check_of file
-    rest8 a layout r is e q p =
-        p ∙ ap (λ (y : Layout). checked_as y (first_no (whole check.Window (layout_fits y) ∷ []))) q ∙ sym (rest (Ok tt) (sym is ∙ e))
+    -- what check 8 makes of a layout
+    abbrev checked : Layout → Result Layout Refusal
+    checked layout = checked_as layout (first_no (whole check.Window (layout_fits layout) ∷ []))
+
+    pub rest8 : (a : Result ⊤ Refusal) (layout : Layout) (r : Result Layout Refusal)
+        → a ≡ first_no (checks_below file (blocks_in file)) → a ≡ Ok tt → layout ≡ layout_of file
+        → r ≡ checked_as layout (first_no (whole check.Window (layout_fits layout) ∷ [])) → r ≡ check_of file
+    rest8 a layout r is e q p = p ∙ ap checked q ∙ sym (rest (Ok tt) (sym is ∙ e))

@@ -5,6 +5,7 @@
 mod block;
 mod checker;
 mod code;
+mod file;
 mod format;
 
 pub use checker::{Layout, check, is_window};

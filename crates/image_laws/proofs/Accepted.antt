@@ -64,7 +64,7 @@ module _ (file : List ℕ) (layout : Layout) (valid : check_of file ≡ Ok layou
     abbrev used : ℕ
     used = used_of (block_of file k)
 
-    row : first_no (block_checks file k) ≡ (Ok tt)
+    row : first_no (block_checks file k) ≡ Ok tt
     row = valid_block file layout valid k hk
 
     says_mark : halfword block 0 ≡ 0xD0C1

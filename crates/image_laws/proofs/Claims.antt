@@ -42,7 +42,7 @@ check_then_pack file c w l out bytes valid same =
     let passed15 = ap₂ ◌&&◌ (le-leb 1 (length code) sized.0) (le-leb (length code) 15936 sized.1) in
     let passed8 = ap (λ (n : ℕ). check8 n w l) (sym (valid_code_bytes file said valid)) ∙ valid_fits file said valid in
     let passed16 = eq-eqb (length out) (512 * blocks_needed (length code)) (omega arith) in
-    let done : pack_of code w l (length out) ≡ (Ok tt) =
+    let done : pack_of code w l (length out) ≡ Ok tt =
     passed_head _ _ passed15 ∙ passed_head _ _ passed8 ∙ passed_head _ _ passed16 ∙ empty in
     (done, ap (λ (a : Result ⊤ Refusal). output_as a (image_of code w l) out) done ∙ image_again file said valid bytes)
 

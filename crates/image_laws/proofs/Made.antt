@@ -40,7 +40,7 @@ used_right_is n k h =
     (λ lt. rw (ne_eqb (k + 1) (blocks_needed n) (λ q. omega arith)) (eq-eqb (used_in n k) 249 (omega arith)))
     (eq-or-lt_of_le {n = k + 1} {m = blocks_needed n} (omega arith))
 
-pub empty : first_no [] ≡ (Ok tt)
+pub empty : first_no [] ≡ Ok tt
 unfolding first_no
 empty = refl
 
@@ -133,7 +133,7 @@ module _ (code : List ℕ) (w l : ℕ) where
         (eq-eqb _ _ (start_at k hk ∙ sym (start_at 0 (omega arith))))
         (eq-eqb _ _ (window_at k hk ∙ sym (window_at 0 (omega arith))))
 
-    block_passes : (k : ℕ) → k < blocks_needed (length code) → first_no (block_checks image k) ≡ (Ok tt)
+    block_passes : (k : ℕ) → k < blocks_needed (length code) → first_no (block_checks image k) ≡ Ok tt
     block_passes k hk =
         passed_head _ _ (passes3 k hk)
         ∙ passed_head _ _ (passes4 k hk)

@@ -1,5 +1,6 @@
 -- What is claimed of images as a whole ("Image blocks", "The questions", "Bench table"; Change 3).
-use Rattle.std.specs.Prelude.{◌≡◌, List, [], ◌∷◌, ℕ, zero, suc, ◌-◌, ◌*◌, ◌≤◌, ◌<◌, eqb, length, get_or, Some, None, Ok, Err}
+use Rattle.std.specs.Prelude.{◌≡◌, List, [], ◌∷◌, ℕ, zero, suc, ◌-◌, ◌*◌, ◌≤◌, ◌<◌, eqb, length, get_or}
+use Rattle.std.specs.Prelude.{Some, None, Ok, Err}
 use Rattle.std.specs.Borrow.{Bor}
 use Rattle.units.specs.Address.{wrap}
 use Rattle.refusals.specs.declared.refusal.Refusal.{Refusal}

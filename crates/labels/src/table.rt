@@ -5,7 +5,8 @@ ghost use Rattle.std.specs.Prelude.{◌≡◌, ◌<◌, length};
 ghost use Rattle.labels.specs.Table.{home, next_place, probe_of, table_after, lookup_of};
 
 // A name, and the number of the instruction that follows its first definition. 0
-// is no name, and marks a free place.
+// is no name, and marks a free place: with an Option the table, which is cleared
+// for each text, would be half as large again.
 #[derive(Clone, Copy)]
 pub struct Entry {
     pub name: u64,

@@ -80,7 +80,8 @@ fn assemble(rt: &(impl Print + Eprint), text: &[u8], window: Window) -> io::Resu
 }
 
 // Room for one byte more than the longest text, so that a longer one is seen to be
-// longer and no more of it is read.
+// longer and no more of it is read. It has a function of its own, so that no other
+// proof counts so long an array.
 fn room() -> [u8; MOST + 1]
     ensures { length result ≡ 524289 }
 {

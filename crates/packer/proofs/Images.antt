@@ -1,22 +1,20 @@
 -- The image of a code, byte by byte.
-use Rattle.std.proofs.Common.{◌≡◌, ℕ, ◌+◌, ◌-◌, ◌*◌, ◌/◌, ◌%◌, ◌<◌, ◌≤◌, List, length, get_or, take, sym, refl, ap}
-use Rattle.std.proofs.Common.{◌∙◌, ap₂, add-one, arith, le-ltb, lt-ltb}
+use Rattle.std.proofs.Common.{◌≡◌, ℕ, ◌+◌, ◌-◌, ◌*◌, ◌/◌, ◌%◌, ◌<◌, ◌≤◌, List, ◌++◌, length, get_or, take, drop, sym, refl, ap}
+use Rattle.std.proofs.Common.{◌∙◌, ap₂, add-one, append_assoc, length-append, arith, le-ltb, lt-ltb}
 use lib.ListN.{get_or-eq_default}
 use Rattle.units.specs.Bytes.{byte_of, with_halfword}
 use Rattle.units.specs.Address.{wrap}
 use Rattle.sums.specs.Sum.{added_to, sum_below}
 use Rattle.image.specs.Format.{block_bytes, block_halfwords, block_code, header_halfwords}
 use Rattle.packer.specs.Pack.{blocks_needed, header_of, body_halfword, balance_of, image_halfword, image_byte, image_of}
-use Rattle.packer.specs.Writing.{Room, Written, code_end}
+use Rattle.packer.specs.Writing.{Written, code_end}
+use Rattle.image.specs.Block.{block_of}
+use Rattle.image.proofs.Blocks.{byte_at, block_length}
+use borrow.Rule.Slice.PartMut.{put_mid, post_of}
+use lib.Seq.{length-take-le, take-append_seam, take-add}
 use Rattle.sums.proofs.Sums.{sum_less, back_unique}
 use Rattle.image.proofs.Lists.{length_tabulate, tabulate_at}
-use Rattle.packer.proofs.Overwriting.{two_more}
-
--- a store leaves the output as long as it was
-pub room_kept : (code : List ℕ) (k : ℕ) (out next : List ℕ) → Room code k out → length next ≡ length out
-    → Room code k next
-room_kept code k out next room e =
-    record { code_fits = room.code_fits; in_image = room.in_image; long = e ∙ room.long }
+use Rattle.packer.proofs.Overwriting.{two_more, same_all}
 
 module _ (code : List ℕ) (w l : ℕ) where
   pub image_length : length (image_of code w l) ≡ block_bytes * blocks_needed (length code)
@@ -85,32 +83,47 @@ module _ (code : List ℕ) (w l : ℕ) where
   unfolding image_halfword
   balance_at k = refl
 
-  -- the blocks before block k are written, and nothing of it
-  pub written_none : (k : ℕ) (out : List ℕ) → take (block_bytes * k) out ≡ take (block_bytes * k) (image_of code w l)
-      → Written code w l k 0 out 0
+  -- block k of the image, byte by byte
+  module _ (k : ℕ) (hk : k < blocks_needed (length code)) where
+    pub block_long : length (block_of (image_of code w l) k) ≡ block_bytes
+    block_long = block_length (image_of code w l) k (rw image_length (omega arith))
+
+    block_low : (j : ℕ) → j < block_halfwords
+        → get_or (block_of (image_of code w l) k) (2 * j) 0 ≡ image_halfword code w l k j % 256
+    block_low j hj = byte_at (image_of code w l) k (2 * j) (omega arith) ∙ image_low k j hk hj
+
+    block_high : (j : ℕ) → j < block_halfwords
+        → get_or (block_of (image_of code w l) k) (2 * j + 1) 0 ≡ image_halfword code w l k j / 256
+    block_high j hj =
+        let place : 512 * k + (2 * j + 1) ≡ 512 * k + 2 * j + 1 = omega arith in
+        byte_at (image_of code w l) k (2 * j + 1) (omega arith)
+        ∙ ap (λ (p : ℕ). get_or (image_of code w l) p 0) place
+        ∙ image_high k j hk hj
+
+  -- nothing of a block is written yet
+  pub written_none : (k : ℕ) (block : List ℕ) → Written code w l k 0 block 0
   unfolding sum_below
-  written_none k out e =
-      let start : 512 * k + 2 * 0 ≡ 512 * k = omega arith in
-      record { sum_is = refl; same = rw start e }
+  written_none k block = record { sum_is = refl; same = refl }
 
   -- a halfword put after what is written of block k
-  module _ (k j p : ℕ) (out next : List ℕ) (h sum : ℕ) (room : Room code k out) (so : Written code w l k j out sum)
-      (place : p ≡ block_bytes * k + 2 * j) (store : next ≡ with_halfword out p h) where
+  module _ (k j p : ℕ) (block next : List ℕ) (h sum : ℕ) (hk : k < blocks_needed (length code))
+      (long : length block ≡ block_bytes) (so : Written code w l k j block sum)
+      (place : p ≡ 2 * j) (store : next ≡ with_halfword block p h) where
     put : j < block_halfwords → h ≡ image_halfword code w l k j
-        → take (block_bytes * k + 2 * j + 2) next ≡ take (block_bytes * k + 2 * j + 2) (image_of code w l)
+        → take (2 * j + 2) next ≡ take (2 * j + 2) (block_of (image_of code w l) k)
     put hj q =
-        ap (take (512 * k + 2 * j + 2)) (store ∙ ap (λ (a : ℕ). with_halfword out a h) place)
-        ∙ two_more out (image_of code w l) (512 * k + 2 * j) (h % 256) (h / 256)
-        so.same (omega (arith, room)) (rw image_length (omega (arith, room)))
-        (ap (λ (x : ℕ). x % 256) q ∙ sym (image_low k j room.in_image hj))
-        (ap (λ (x : ℕ). x / 256) q ∙ sym (image_high k j room.in_image hj))
+        ap (take (2 * j + 2)) (store ∙ ap (λ (a : ℕ). with_halfword block a h) place)
+        ∙ two_more block (block_of (image_of code w l) k) (2 * j) (h % 256) (h / 256)
+        so.same (omega (arith, long)) (rw (block_long k hk) (omega arith))
+        (ap (λ (x : ℕ). x % 256) q ∙ sym (block_low k hk j hj))
+        (ap (λ (x : ℕ). x / 256) q ∙ sym (block_high k hk j hj))
 
     -- one more, before the last
     pub written_more : (r : ℕ) → j < block_halfwords - 1 → h ≡ body_halfword code w l k j → r ≡ added_to sum h
         → Written code w l k (j + 1) next r
     unfolding sum_below
     written_more r hj q e =
-        let step : 512 * k + 2 * (j + 1) ≡ 512 * k + 2 * j + 2 = omega arith in
+        let step : 2 * (j + 1) ≡ 2 * j + 2 = omega arith in
         record {
           sum_is = rw add-one (e ∙ ap₂ added_to so.sum_is q);
           same = rw step (put (omega arith) (q ∙ sym (body_at k j hj)));
@@ -123,9 +136,32 @@ module _ (code : List ℕ) (w l : ℕ) where
         written_more sum hj (z ∙ sym (body_zero k j end hj)) (omega (arith, so.sum_is, less, z))
 
     -- the last
-    pub written_all : j ≡ block_halfwords - 1 → h < 65536 → (h + sum) % 65536 ≡ 0
-        → take (block_bytes * k + block_bytes) next ≡ take (block_bytes * k + block_bytes) (image_of code w l)
-    written_all hj less e =
-        let step : 512 * k + 512 ≡ 512 * k + 2 * j + 2 = omega arith in
+    pub written_all : j ≡ block_halfwords - 1 → h < 65536 → (h + sum) % 65536 ≡ 0 → length next ≡ block_bytes
+        → next ≡ block_of (image_of code w l) k
+    written_all hj less e same =
+        let step : 512 ≡ 2 * j + 2 = omega arith in
         let is = balance_is k h sum (so.sum_is ∙ ap (sum_below (body_halfword code w l k)) hj) less e in
-        rw step (put (omega arith) (is ∙ sym (balance_at k) ∙ ap (image_halfword code w l k) (sym hj)))
+        let size = block_long k hk in
+        same_all 512 next (block_of (image_of code w l) k) (omega arith) (omega arith)
+        (rw step (put (omega arith) (is ∙ sym (balance_at k) ∙ ap (image_halfword code w l k) (sym hj))))
+
+-- a block more of an image, put over its place
+pub block_put : (out image : List ℕ) (k : ℕ) → block_bytes * k + block_bytes ≤ length out
+    → length (block_of image k) ≡ block_bytes → take (block_bytes * k) out ≡ take (block_bytes * k) image
+    → take (block_bytes * (k + 1))
+    (put_mid (block_bytes * k) (block_bytes * k + block_bytes - block_bytes * k) out (block_of image k))
+    ≡ take (block_bytes * (k + 1)) image
+unfolding block_of
+block_put out image k inside size e =
+    let front = take (512 * k) out in
+    let block = take 512 (drop (512 * k) image) in
+    let rest = post_of (512 * k) (512 * k + 512 - 512 * k) out in
+    let first : length front ≡ 512 * k = length-take-le (512 * k) out (omega arith) in
+    let long : 512 * (k + 1) ≡ length (front ++ block) = rw (length-append front block, first, size) (omega arith) in
+    let next : 512 * k + 512 ≡ 512 * (k + 1) = omega arith in
+    ap (take (512 * (k + 1))) (sym (append_assoc front block rest))
+    ∙ ap (λ (n : ℕ). take n ((front ++ block) ++ rest)) long
+    ∙ take-append_seam (front ++ block) rest
+    ∙ ap (λ (x : List ℕ). x ++ block) e
+    ∙ sym (take-add (512 * k) 512 image)
+    ∙ ap (λ (n : ℕ). take n image) next

@@ -1,19 +1,14 @@
--- The image while it is written. Only the contracts of private functions speak of it.
-use Rattle.std.specs.Prelude.{◌≡◌, ℕ, ◌+◌, ◌*◌, ◌<◌, ◌≤◌, List, length, take}
+-- A block of the image while it is written. Only the contracts of private functions speak of it.
+use Rattle.std.specs.Prelude.{◌≡◌, ℕ, ◌+◌, ◌*◌, List, length, take}
 use Rattle.sums.specs.Sum.{sum_below}
-use Rattle.image.specs.Format.{block_bytes, header_halfwords, most_code}
-use Rattle.packer.specs.Pack.{blocks_needed, used_in, body_halfword, image_of}
+use Rattle.image.specs.Format.{header_halfwords}
+use Rattle.image.specs.Block.{block_of}
+use Rattle.packer.specs.Pack.{used_in, body_halfword, image_of}
 
--- the code fits an image, block k is one of its blocks, and the output is as long as the image
-pub record Room (code : List ℕ) (k : ℕ) (out : List ℕ) : Type 0 where
-  pub code_fits : length code ≤ most_code
-  pub in_image : k < blocks_needed (length code)
-  pub long : length out ≡ block_bytes * blocks_needed (length code)
-
--- the output is the image up to halfword j of block k, and the halfwords of the block before that have a sum
-pub record Written (code : List ℕ) (w l k j : ℕ) (out : List ℕ) (sum : ℕ) : Type 0 where
+-- a block is block k of the image up to halfword j, and the halfwords before that have a sum
+pub record Written (code : List ℕ) (w l k j : ℕ) (block : List ℕ) (sum : ℕ) : Type 0 where
   pub sum_is : sum ≡ sum_below (body_halfword code w l k) j
-  pub same : take (block_bytes * k + 2 * j) out ≡ take (block_bytes * k + 2 * j) (image_of code w l)
+  pub same : take (2 * j) block ≡ take (2 * j) (block_of (image_of code w l) k)
 
 -- the halfword of block k after its code
 abbrev pub code_end : List ℕ → ℕ → ℕ

@@ -1,8 +1,9 @@
 // The image of a code, put into bytes.
-ghost use Rattle.std.specs.Prelude.{◌≡◌, ℕ, ◌+◌, ◌-◌, ◌*◌, ◌/◌, ◌<◌, ◌≤◌, length, take, slice_index};
+ghost use Rattle.std.specs.Prelude.{◌≡◌, ℕ, ◌-◌, ◌*◌, ◌<◌, ◌≤◌, length, slice_index};
 ghost use Rattle.image.specs.Format.{block_bytes, block_halfwords, header_halfwords, most_code};
 ghost use Rattle.packer.specs.Pack.{blocks_needed, used_in, header_of, image_of};
-ghost use Rattle.packer.specs.Writing.{Room, Written, code_end};
+ghost use Rattle.image.specs.Block.{block_of};
+ghost use Rattle.packer.specs.Writing.{Written, code_end};
 
 use image::{BLOCK_BYTES, BLOCK_CODE, BLOCK_HALFWORDS, HEADER_BYTES, HEADER_HALFWORDS, MARK};
 use sums::add_to_sum;
@@ -56,17 +57,15 @@ impl<'a> Plan<'a> {
         }
     }
 
-    // Writes the header of block `k`, after the blocks before it, and sums it.
-    fn write_header(self, k: usize, out: &mut [u8]) -> u16
-        requires room { Room self.code.now k out.old }
-        requires written { Written self.code.now self.w self.l k 0 out.old 0 }
-        ensures { Written self.entry.code.now self.entry.w self.entry.l k header_halfwords out.new result }
+    // Writes the header of block `k`, and sums it.
+    fn write_header(self, k: usize, block: &mut [u8; BLOCK_BYTES]) -> u16
+        requires { k < blocks_needed (length self.code.now) }
+        ensures { Written self.entry.code.now self.entry.w self.entry.l k header_halfwords block.new result }
     {
-        let start = BLOCK_BYTES * k;
         let mut sum = 0;
         for j in 0..HEADER_HALFWORDS {
             let h = self.header_halfword(k, j);
-            put_halfword(out, start + 2 * j, h);
+            put_halfword(block, 2 * j, h);
             sum = add_to_sum(sum, h);
         }
         sum
@@ -75,51 +74,48 @@ impl<'a> Plan<'a> {
     // Writes the code of block `k` after its header, and adds it to the header's
     // sum. There is no test inside the loop, so that the compiler does many
     // halfwords at a time.
-    fn write_code(self, k: usize, out: &mut [u8], header: u16) -> u16
-        requires room { Room self.code.now k out.old }
-        requires written { Written self.code.now self.w self.l k header_halfwords out.old header }
+    fn write_code(self, k: usize, block: &mut [u8; BLOCK_BYTES], header: u16) -> u16
+        requires there { k < blocks_needed (length self.code.now) }
+        requires written { Written self.code.now self.w self.l k header_halfwords block.old header }
         ensures { Written self.entry.code.now self.entry.w self.entry.l k (code_end self.entry.code.now k)
-            out.new result }
+            block.new result }
     {
-        let start = BLOCK_BYTES * k + HEADER_BYTES;
         let first = BLOCK_CODE * k;
         let used = self.used_in(k);
         let mut sum = header;
         for i in 0..used {
             let h = self.code[first + i];
-            put_halfword(out, start + 2 * i, h);
+            put_halfword(block, HEADER_BYTES + 2 * i, h);
             sum = add_to_sum(sum, h);
         }
         sum
     }
 
     // Writes zeros after the code of block `k`, up to its last halfword.
-    fn write_zeros(self, k: usize, out: &mut [u8])
-        requires { Room self.code.now k out.old }
+    fn write_zeros(self, k: usize, block: &mut [u8; BLOCK_BYTES])
+        requires { k < blocks_needed (length self.code.now) }
         ensures { (sum : ℕ)
-            → Written self.entry.code.now self.entry.w self.entry.l k (code_end self.entry.code.now k) out.old sum
-            → Written self.entry.code.now self.entry.w self.entry.l k (block_halfwords - 1) out.new sum }
+            → Written self.entry.code.now self.entry.w self.entry.l k (code_end self.entry.code.now k) block.old sum
+            → Written self.entry.code.now self.entry.w self.entry.l k (block_halfwords - 1) block.new sum }
     {
-        let start = BLOCK_BYTES * k;
         for j in HEADER_HALFWORDS + self.used_in(k)..BLOCK_HALFWORDS - 1 {
-            put_halfword(out, start + 2 * j, 0);
+            put_halfword(block, 2 * j, 0);
         }
     }
 
-    // Writes block `k`, after the blocks before it: its header, its code, zeros,
-    // and the halfword that makes the sum 0.
-    fn write_block(self, k: usize, out: &mut [u8])
-        requires room { Room self.code.now k out.old }
-        requires out_value { take (block_bytes * k) out.old
-            ≡ take (block_bytes * k) (image_of self.code.now self.w self.l) }
-        ensures { take (block_bytes * k + block_bytes) out.new
-            ≡ take (block_bytes * k + block_bytes) (image_of self.entry.code.now self.entry.w self.entry.l) }
+    // Writes block `k` over a part as long as one: its header, its code, zeros, and
+    // the halfword that makes the sum 0.
+    fn write_block(self, k: usize, part: &mut [u8])
+        requires there { k < blocks_needed (length self.code.now) }
+        requires long { length part.old ≡ block_bytes }
+        ensures { part.new ≡ block_of (image_of self.entry.code.now self.entry.w self.entry.l) k }
     {
-        let header = self.write_header(k, out);
-        let sum = self.write_code(k, out, header);
-        self.write_zeros(k, out);
-        let last = BLOCK_BYTES * k + 2 * (BLOCK_HALFWORDS - 1);
-        put_halfword(out, last, 0u16.wrapping_sub(sum));
+        if let Some(block) = part.as_mut_array() {
+            let header = self.write_header(k, block);
+            let sum = self.write_code(k, block, header);
+            self.write_zeros(k, block);
+            put_halfword(block, BLOCK_BYTES - 2, 0u16.wrapping_sub(sum));
+        }
     }
 
     // Writes the whole image over an output of its length.
@@ -128,7 +124,8 @@ impl<'a> Plan<'a> {
         ensures { out.new ≡ image_of self.entry.code.now self.entry.w self.entry.l }
     {
         for k in 0..self.blocks() {
-            self.write_block(k, out);
+            let start = BLOCK_BYTES * k;
+            self.write_block(k, &mut out[start..start + BLOCK_BYTES]);
         }
     }
 }

@@ -73,7 +73,8 @@ module _ {budget : ℕ} {regs₀ memory₀ : List ℕ} {k₀ : Control} {regs me
         (ran, run_told budget _ _ memory₀ count _ log started turn.reached _ here.count ran)
 
     -- a step does not complete
-    pub ended_run : {m : Machine} {o : RunOutcome} {n : ℕ} (regs' : List ℕ) {memory' : List ℕ} {log' : Log} (e : Executed)
+    pub ended_run : {m : Machine} {o : RunOutcome} {n : ℕ} (regs' : List ℕ) {memory' : List ℕ} {log' : Log}
+        (e : Executed)
         → count < budget → Stepped regs memory log k count regs' memory' log' e → Last e.outcome
         → Ended m o n (held regs' e.control) e.outcome count
         → Answers budget (lent regs₀ s) memory₀ (run_result m memory' o n) log'

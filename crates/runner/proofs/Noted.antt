@@ -63,7 +63,9 @@ unfolding run_of
 run_noted n budget m memory = go (eqb (length memory) memory_bytes)
   where
     by_size : Bool → Machine → RunResult
-    by_size t m = cond t (run_from budget 0 (state m memory)) (run_result m memory (ended.Refused (refusal check.MemorySize)) 0)
+    by_size t m =
+        cond t (run_from budget 0 (state m memory))
+        (run_result m memory (ended.Refused (refusal check.MemorySize)) 0)
 
     go : (t : Bool) → by_size t (with_note n m) ≡ renoted n (by_size t m)
     go true = from_noted n budget 0 (state m memory)

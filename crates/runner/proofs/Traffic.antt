@@ -36,7 +36,8 @@ unfolding state_after
 reached_first s log empty = record { state = refl; logs = subst⁻¹ (Logs 0 NoData) empty logs_empty }
 
 -- one more turn
-pub reached_again : (s : State) (count : ℕ) (log log' : Log) (regs memory regs' memory' : List ℕ) (k : Control) (e : Executed)
+pub reached_again : (s : State) (count : ℕ) (log log' : Log) (regs memory regs' memory' : List ℕ) (k : Control)
+    (e : Executed)
     → Steps regs memory k regs' e memory' → log' ≡ logged count (step_traffic (held regs k) memory) log
     → e.outcome ≡ Completed → Reached s count (state (held regs k) memory) log
     → Reached s (count + 1) (state (held regs' e.control) memory') log'

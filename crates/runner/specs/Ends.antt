@@ -1,4 +1,5 @@
--- How a run ends, of how its last step did, and back. Only the contracts of functions that are no entry points speak of it.
+-- How a run ends, of how its last step did, and back. Only the contracts of functions that are no entry points speak of
+-- it.
 use Rattle.std.specs.Prelude.{◌≡◌, ℕ}
 use Rattle.cpu.specs.declared.machine.Machine.{Machine}
 use Rattle.cpu.specs.declared.outcome.Outcome.{Outcome}

@@ -160,7 +160,9 @@ fn memory(text: &[u8], at: usize, row: usize, a: u64) -> Option<Line>
     offset_line(text, b.stop, row, a, b.value)
 }
 
-// The operands of an instruction, by the first row of its name.
+// The operands of an instruction, by the first row of its name. Called from two
+// places of the parser, which is the fastest with them inside.
+#[inline(always)]
 pub(crate) fn operands(text: &[u8], at: usize, row: usize) -> Option<Line>
     requires { (at ≤ length text.now) × (0 < row) }
     ensures { result ≡ operands_as row at (drop at text.now) }

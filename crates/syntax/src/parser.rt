@@ -17,7 +17,8 @@ pub struct Values {
     pub c: u64,
 }
 
-// What a line says: its row, and the values of its slots.
+// What a line says: its row, by its place in the definition's list of patterns, and
+// the values of its slots.
 #[derive(Clone, Copy)]
 pub struct Item {
     pub row: usize,

@@ -85,13 +85,7 @@ pub(crate) fn register_at(text: &[u8], at: usize) -> Option<Spot>
         });
     }
     let e = byte_at(text, at + 2);
-    if e < b'0' {
-        return Some(Spot {
-            value: 1,
-            stop: at + 2,
-        });
-    }
-    if b'5' < e {
+    if e < b'0' || b'5' < e {
         return Some(Spot {
             value: 1,
             stop: at + 2,

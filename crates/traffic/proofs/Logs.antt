@@ -48,7 +48,8 @@ logs_quiet count last log logs =
     more (inr none) = inr none
 
 -- each step writes itself into it, if it touches data
-pub logs_step : (count : ℕ) (last t : Traffic) (log : Log) → Logs count last log → Logs (suc count) t (logged count t log)
+pub logs_step : (count : ℕ) (last t : Traffic) (log : Log) → Logs count last log
+    → Logs (suc count) t (logged count t log)
 logs_step count last NoData log logs = logs_quiet count last log logs
 logs_step count last (ReadByte a) log logs = logs_access count (ReadByte a)
 logs_step count last (ReadHalfword a) log logs = logs_access count (ReadHalfword a)

@@ -1,8 +1,7 @@
--- What is asked of a branch, and what is left of a halfword that is none, by its top bits.
+-- What is left of a halfword that is no branch, by its top bits.
 use mathlib.Core.Bool.{Bool, true, false}
 use mathlib.Core.Path.{◌≡◌, refl, sym, ap, ◌∙◌}
-use Prim.Native.Nat.{ℕ, ◌+◌, ◌≤◌, ◌<◌}
-use native.Mathlib.Decide.{dec_le}
+use Prim.Native.Nat.{ℕ, ◌+◌, ◌<◌}
 use native.Mathlib.Omega.{arith}
 use borrow.Author.Tests.{eqb-true, eqb-false}
 use lib.Dec.{eqb, ltb, lit<}
@@ -13,56 +12,43 @@ use Rattle.isa.specs.Decode.{only, decode_of}
 use Rattle.isa.specs.declared.instruction.Instruction.TheVariants.{Branch}
 use Rattle.isa.proofs.Formats.{is_lower_branch, is_upper_branch, is_none}
 use Rattle.targets.specs.Targets.{jump_at}
-use Rattle.targets.proofs.Jumps.{is_branch, no_branch}
 use Rattle.std.specs.Prelude.{Some, None}
 
 to_nowhere : (t : ByteAddress) → None ≡ Some t → ⊥
 to_nowhere t e = clash (cc)
 
-module _ (a : ByteAddress) (h : ℕ) where
-  -- what goes somewhere is a branch
-  pub is_jump : (t : ByteAddress) → jump_at a (decode_of h) ≡ Some t → decode_of h
-      ≡ Some (Branch (field h 8 4) (field h 0 8))
-  is_jump t e = go (dec_le 208 (field h 8 8)) (dec_le (field h 8 8) 221)
+module _ (a : ByteAddress) (h : ℕ) (fits : h < 65536) (still : jump_at a (decode_of h) ≡ None) where
+  -- a halfword with the first bits of a branch that is none
+  still_lower : field h 11 5 ≡ 26 → ⊥
+  still_lower e = to_nowhere _ (sym still ∙ ap (jump_at a) (is_lower_branch h fits e))
+
+  still_upper : field h 11 5 ≡ 27 → decode_of h ≡ None
+  still_upper e =
+      let d = is_upper_branch h fits e in
+      d ∙ go (eqb (field h 12 1) 1) (ltb (field h 8 4) 14) (sym (ap (jump_at a) d) ∙ still)
     where
-      go : Dec (208 ≤ field h 8 8) → Dec (field h 8 8 ≤ 221) → decode_of h
-          ≡ Some (Branch (field h 8 4) (field h 0 8))
-      go (yes low) (yes high) = is_branch h low high
-      go (yes low) (no n) = absurd (to_nowhere t (sym (no_branch a h (λ l u. n u)) ∙ e))
-      go (no n) d = absurd (to_nowhere t (sym (no_branch a h (λ l u. n l)) ∙ e))
+      go : (t u : Bool) → jump_at a (only t (only u (Some (Branch (field h 8 4) (field h 0 8))))) ≡ None
+          → only t (only u (Some (Branch (field h 8 4) (field h 0 8)))) ≡ None
+      go true true q = absurd (to_nowhere _ (sym q))
+      go true false q = refl
+      go false u q = refl
 
-  module _ (fits : h < 65536) (still : jump_at a (decode_of h) ≡ None) where
-    -- a halfword with the first bits of a branch that is none
-    still_lower : field h 11 5 ≡ 26 → ⊥
-    still_lower e = to_nowhere _ (sym still ∙ ap (jump_at a) (is_lower_branch h fits e))
-
-    still_upper : field h 11 5 ≡ 27 → decode_of h ≡ None
-    still_upper e =
-        let d = is_upper_branch h fits e in
-        d ∙ go (eqb (field h 12 1) 1) (ltb (field h 8 4) 14) (sym (ap (jump_at a) d) ∙ still)
-      where
-        go : (t u : Bool) → jump_at a (only t (only u (Some (Branch (field h 8 4) (field h 0 8))))) ≡ None
-            → only t (only u (Some (Branch (field h 8 4) (field h 0 8)))) ≡ None
-        go true true q = absurd (to_nowhere _ (sym q))
-        go true false q = refl
-        go false u q = refl
-
-    -- what the last arm of a `match` on the top five bits is told, where operations on registers, loads and
-    -- stores are out of the way
-    pub is_undefined : {B : Type 0} (n : ℕ) → n ≡ field h 11 5 → (field h 13 3 ≡ 2 → ⊥) → (field h 13 3 ≡ 3 → ⊥)
-        → (((B × (n ≡ 0 → ⊥)) × (n ≡ 4 → ⊥)) × (n ≡ 5 → ⊥)) × (n ≡ 20 → ⊥)
-        → decode_of h ≡ None
-    is_undefined n told registers memory rest = go (eqb n 27) refl
-      where
-        go : (t : Bool) → eqb n 27 ≡ t → decode_of h ≡ None
-        go true e = still_upper (sym told ∙ eqb-true n 27 e)
-        go false e =
-            let r : n ≡ 8 → ⊥ = λ z. registers (omega (arith, told)) in
-            let m : (k : ℕ) → k < 4 → n ≡ 12 + k → ⊥ = λ k l z. memory (omega (arith, told)) in
-            is_none h fits n told (
-              (
-                ((((((rest.0, r), m 0 (lit< tt)), m 1 (lit< tt)), m 2 (lit< tt)), m 3 (lit< tt)), rest.1),
-                λ z. still_lower (sym told ∙ z),
-              ),
-              eqb-false n 27 e,
-            )
+  -- what the last arm of a `match` on the top five bits is told, where operations on registers, loads and
+  -- stores are out of the way
+  pub is_undefined : {B : Type 0} (n : ℕ) → n ≡ field h 11 5 → (field h 13 3 ≡ 2 → ⊥) → (field h 13 3 ≡ 3 → ⊥)
+      → (((B × (n ≡ 0 → ⊥)) × (n ≡ 4 → ⊥)) × (n ≡ 5 → ⊥)) × (n ≡ 20 → ⊥)
+      → decode_of h ≡ None
+  is_undefined n told registers memory rest = go (eqb n 27) refl
+    where
+      go : (t : Bool) → eqb n 27 ≡ t → decode_of h ≡ None
+      go true e = still_upper (sym told ∙ eqb-true n 27 e)
+      go false e =
+          let r : n ≡ 8 → ⊥ = λ z. registers (omega (arith, told)) in
+          let m : (k : ℕ) → k < 4 → n ≡ 12 + k → ⊥ = λ k l z. memory (omega (arith, told)) in
+          is_none h fits n told (
+            (
+              ((((((rest.0, r), m 0 (lit< tt)), m 1 (lit< tt)), m 2 (lit< tt)), m 3 (lit< tt)), rest.1),
+              λ z. still_lower (sym told ∙ z),
+            ),
+            eqb-false n 27 e,
+          )

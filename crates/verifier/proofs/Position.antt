@@ -1,21 +1,25 @@
 -- From one block of a code to the next.
 use mathlib.Core.List.{List}
 use mathlib.Core.Path.{◌≡◌, sym, ap, ◌∙◌}
-use Prim.Native.Nat.{ℕ, ◌+◌, ◌*◌, ◌<◌, ◌≤◌}
+use Prim.Native.Nat.{ℕ, suc, ◌+◌, ◌*◌, ◌<◌, ◌≤◌}
 use native.Mathlib.Omega.{arith}
 use lib.ListN.{length, get_or}
 use Rattle.units.specs.Bytes.{halfword_at}
 use Rattle.image.specs.Block.{blocks_in}
 use Rattle.image.specs.Check.{check_of}
 use Rattle.image.specs.Code.{code_position, code_at, code_length, code_of}
-use Rattle.image.specs.Format.{block_bytes, block_code, header_bytes, most_code}
+use Rattle.image.specs.Format.{block_bytes, block_code, header_bytes}
 use Rattle.image.specs.declared.checker.Layout.{Layout}
-use Rattle.image.proofs.Valid.{code_length_is, code_halfword_is, code_in_file, last_used, valid_code, valid_size}
+use Rattle.image.proofs.Valid.{code_length_is, code_halfword_is, code_in_file, last_used, valid_size}
 use Rattle.verifier.specs.Position.{before_block}
 use Rattle.std.specs.Prelude.{Ok}
 
 pub none_before : (n : ℕ) → before_block 0 n ≡ 0
 none_before n = omega arith
+
+-- a turn counts one more
+pub next_number : (k n : ℕ) → block_code * k + (n + 1) ≡ suc (block_code * k + n)
+next_number k n = omega arith
 
 -- the blocks of an accepted file are as many as its code needs
 module _ (file : List ℕ) (layout : Layout) (ok : check_of file ≡ Ok layout) where
@@ -37,9 +41,6 @@ module _ (file : List ℕ) (layout : Layout) (ok : check_of file ≡ Ok layout) 
 
   -- instruction n of block k stands in the file, and is the code's
   module _ (k n : ℕ) (in_code : block_code * k + n < length (code_of file)) (in_block : n < block_code) where
-    pub number_small : block_code * k + n < most_code
-    number_small = omega (arith, (valid_code file layout ok).1)
-
     position_is : code_position (block_code * k + n) ≡ block_bytes * k + header_bytes + 2 * n
     position_is = omega arith
 

@@ -1,5 +1,5 @@
--- What the checks of a halfword find: the first of checks 9 to 13 that fails, if one does. Only the contracts of private
--- functions speak of it.
+-- What the checks of a halfword find: the first of checks 9 to 13 that fails, if one does. Only the contracts of
+-- private functions speak of it.
 use Rattle.std.specs.Prelude.{Bool, cond, Option, Some, None, Result, Err, ⊤}
 use Rattle.units.specs.declared.address.ByteAddress.{ByteAddress}
 use Rattle.refusals.specs.declared.check.Check.{Check}
@@ -14,7 +14,9 @@ use Rattle.checks.specs.Questions.{check10, check11, check12, check13}
 -- of an instruction, whose checks come out so
 abbrev pub first_of : Bool → Bool → Bool → Bool → Result ⊤ Check
 first_of t10 t11 t12 t13 =
-    cond t10 (cond t11 (cond t12 (outcome check.Target t13) (Err check.PcWrite)) (Err check.Alignment)) (Err check.Access)
+    cond t10
+    (cond t11 (cond t12 (outcome check.Target t13) (Err check.PcWrite)) (Err check.Alignment))
+    (Err check.Access)
 
 -- of the halfword at an address, decoded as given, in a state
 abbrev pub found_in : State → Layout → ByteAddress → Option Instruction → Result ⊤ Check

@@ -9,7 +9,7 @@ use Rattle.verifier.specs.Found.{found_in}
 
 -- the halfword at an address, decoded as d, has been visited: r is the first of checks 9 to 13 that fails in the
 -- state before, if one does, and the state after is what it leaves
-pub record Visited (layout : Layout) (a : ByteAddress) (d : Option Instruction) (before after : State) (r : Result ⊤ Check)
-    : Type 0 where
+pub record Visited (layout : Layout) (a : ByteAddress) (d : Option Instruction) (before after : State)
+    (r : Result ⊤ Check) : Type 0 where
   pub found : r ≡ found_in before layout a d
   pub state : after ≡ after_of a d before

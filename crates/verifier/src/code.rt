@@ -1,20 +1,23 @@
 // The code of an accepted file, block by block.
-ghost use Rattle.std.specs.Prelude.{◌≡◌, ◌+◌, ◌*◌, ◌<◌, length, get_or, Ok};
+ghost use Rattle.std.specs.Prelude.{◌≡◌, ◌+◌, ◌*◌, ◌<◌, ◌≤◌, length, get_or, Ok};
 ghost use Rattle.image.specs.Block.{blocks_in};
 ghost use Rattle.image.specs.Check.{check_of};
 ghost use Rattle.image.specs.Code.{code_of};
-ghost use Rattle.image.specs.Format.{block_code};
+ghost use Rattle.image.specs.Format.{block_code, most_code};
 ghost use Rattle.verifier.specs.Position.{before_block};
 
 use image::{BLOCK_BYTES, BLOCK_CODE, HEADER_BYTES, Layout};
 use units::{ByteAddress, InstructionIndex, halfword_at};
 
-// A file that checks 2 to 8 accept, and what it says of itself.
+// A file that checks 2 to 8 accept, and what it says of itself. Such a file has
+// some code, and no more than an image holds.
 #[derive(Clone, Copy)]
 pub(crate) struct Accepted<'a> {
     pub file: &'a [u8],
     pub layout: Layout,
     ghost accepted: { check_of file.now ≡ Ok layout },
+    ghost some_code: { 1 ≤ length (code_of file.now) },
+    ghost fits: { length (code_of file.now) ≤ most_code },
 }
 
 impl Accepted<'_> {
@@ -48,9 +51,7 @@ impl Accepted<'_> {
         ensures halfword { result.1 ≡ get_or (code_of self.entry.file.now) (block_code * k + n) 0 }
     {
         let i = InstructionIndex((BLOCK_CODE * k + n) as u16);
-        (
-            i,
-            halfword_at(self.file, BLOCK_BYTES * k + HEADER_BYTES + 2 * n),
-        )
+        let h = halfword_at(self.file, BLOCK_BYTES * k + HEADER_BYTES + 2 * n);
+        (i, h)
     }
 }

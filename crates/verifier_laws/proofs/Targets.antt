@@ -96,7 +96,8 @@ module _ (code : List ℕ) where
   unfolding entering
   next_values i instruction e q =
       ap (λ (t : Bool). standing_at (address_of (suc i)) (cond t unknown_state (entering code (suc i)))) q
-      ∙ ap (λ (d : Option Instruction). standing_at (address_of (suc i)) (after_of (address_of i) d (values_at code i))) e
+      ∙ ap
+      (λ (d : Option Instruction). standing_at (address_of (suc i)) (after_of (address_of i) d (values_at code i))) e
 
   -- at address 0 nothing is known either
   first_values : values_at code 0 ≡ standing_at (address_of 0) unknown_state

@@ -21,6 +21,7 @@ returns-in_default c =
 
 pub returns : goal.returns
 returns c =
-    let all : c.args.budget ≡ c.loop-count.count = omega (arith, c.loop-count-test.false, c.loop-count.auto.count-end) in
+    let all : c.args.budget ≡ c.loop-count.count =
+    omega (arith, c.loop-count-test.false, c.loop-count.auto.count-end) in
     let done = spent_run c.loop-count.invariant c.args.s c.told-memory c.new-k.ensures all c.ended-2.ensures in
     record { count_after = done.0; log_after = done.1 }

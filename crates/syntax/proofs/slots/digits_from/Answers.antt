@@ -1,15 +1,10 @@
 -- A digit goes on with the number; another character, or the end of the text, stops it.
 use Rattle.std.proofs.Common.{arith, sym, ◌∙◌}
-use Rattle.syntax.proofs.Digits.{digits_start, digits_more, digits_stop}
+use Rattle.syntax.proofs.Digits.{digits_start, digits_more}
 use Rattle.syntax.proofs.slots.digits_from.Goals as goal
 
 pub loop-i-init : goal.loop-i-init
 loop-i-init c = (c.requires.0, c.requires.1, digits_start _ _ _ c.requires.0 c.requires.1)
-
-pub returns-then-not-is_digit : goal.returns-then-not-is_digit
-returns-then-not-is_digit c =
-    let other = sym c.is_digit.ensures ∙ c.if-not-is_digit.true in
-    (c.loop-i.invariant.2, digits_stop c.args.text.now c.loop-i.i (omega arith) other)
 
 pub loop-i-preserved : goal.loop-i-preserved
 loop-i-preserved c = (

@@ -1,23 +1,14 @@
 -- No digit, a zero, or another digit and those behind it.
-use Rattle.std.proofs.Common.{ℕ, ◌≡◌, true, sym, ap, subst, ◌∙◌, ◌+◌, ◌-◌, ◌≤◌, arith}
+use Rattle.std.proofs.Common.{ℕ, sym, ap, subst, ◌∙◌, ◌+◌, ◌-◌, arith}
 use Rattle.text.specs.Text.{is_digit}
 use Rattle.syntax.specs.Spots.{Digits}
-use Rattle.syntax.proofs.Digits.{number_none, number_read, digit_low, digit_high}
-use Rattle.syntax.proofs.Steps.{byte_inside}
+use Rattle.syntax.proofs.Digits.{number_none, number_read}
 use Rattle.syntax.proofs.slots.number_at.Goals as goal
 
 pub returns-then-not-is_digit : goal.returns-then-not-is_digit
 returns-then-not-is_digit c =
     number_none c.args.text.now c.args.at
     (sym (ap is_digit c.byte_at-first.ensures) ∙ sym c.is_digit.ensures ∙ c.if-not-is_digit.true)
-
-pub digits_from-requires : goal.digits_from-requires
-digits_from-requires c =
-    let d = c.byte_at-first.result in
-    let there : is_digit d ≡ true = sym c.is_digit.ensures ∙ c.if-not-is_digit.false in
-    let low : 48 ≤ d = digit_low d there in
-    let inside = byte_inside c.args.text.now c.args.at d (omega arith) (sym c.byte_at-first.ensures) in
-    (omega (arith, inside), omega (arith, digit_high d there))
 
 pub returns : goal.returns
 returns c =

@@ -4,6 +4,7 @@ use Rattle.text.specs.Text.{is_digit}
 use Rattle.syntax.proofs.Digits.{digit_low}
 use Rattle.syntax.proofs.Registers.{register_other, register_no_digit, register_short, register_one, register_teen}
 use Rattle.syntax.proofs.slots.register_at.Goals as goal
+use Rattle.syntax.proofs.slots.register_at.Goals.{then-e-lt48-via-then-e-lt48, then-e-lt48-via-else-e-lt48+then-e-gt53}
 
 pub returns-then-byte_at-ne82 : goal.returns-then-byte_at-ne82
 returns-then-byte_at-ne82 c =
@@ -23,13 +24,11 @@ pub returns-then-e-lt48 : goal.returns-then-e-lt48
 returns-then-e-lt48 c =
     register_one c.args.text.now c.args.at c.requires (sym c.byte_at.ensures ∙ c.if-byte_at-ne82.false)
     (sym c.byte_at-d.ensures ∙ c.if-d-ne49.false)
-    (λ q. omega (arith, c.byte_at-e.ensures, c.if-e-lt48.true, digit_low (get_or c.args.text.now (c.args.at + 2) 0) q))
-
-pub returns-then-e-gt53 : goal.returns-then-e-gt53
-returns-then-e-gt53 c =
-    register_one c.args.text.now c.args.at c.requires (sym c.byte_at.ensures ∙ c.if-byte_at-ne82.false)
-    (sym c.byte_at-d.ensures ∙ c.if-d-ne49.false)
-    (λ q. omega (arith, c.byte_at-e.ensures, c.if-e-gt53.true))
+    (elim c.then-e-lt48.branch [
+      | then-e-lt48-via-then-e-lt48 w ↦
+          λ q. omega (arith, c.byte_at-e.ensures, w.if-e-lt48.true, digit_low (get_or c.args.text.now (c.args.at + 2) 0) q)
+      | then-e-lt48-via-else-e-lt48+then-e-gt53 w ↦ λ q. omega (arith, c.byte_at-e.ensures, w.if-e-gt53.true)
+    ])
 
 pub returns : goal.returns
 returns c =

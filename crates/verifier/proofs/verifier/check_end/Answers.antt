@@ -1,16 +1,13 @@
 -- Check 14 is the last one.
 use Rattle.std.proofs.Common.{◌∙◌, arith}
 use Rattle.std.proofs.lemmas.Result.{err_from_is_err_and}
-use Rattle.image.proofs.Valid.{valid_code, code_in_file}
+use Rattle.image.proofs.Valid.{code_in_file}
 use Rattle.verifier.proofs.Walk.{ended, fit, verdict_is}
 use Rattle.verifier.proofs.verifier.check_end.Goals as goal
 
-pub overflow_sub-last : goal.overflow_sub-last
-overflow_sub-last c = omega (arith, (valid_code _ _ c.args.code.accepted).0)
-
 pub code_at-requires : goal.code_at-requires
 code_at-requires c =
-    code_in_file _ _ c.args.code.accepted _ (omega (arith, (valid_code _ _ c.args.code.accepted).0))
+    code_in_file _ _ c.args.code.accepted _ (omega arith)
 
 pub returns-in_err-answer_at : goal.returns-in_err-answer_at
 returns-in_err-answer_at c =

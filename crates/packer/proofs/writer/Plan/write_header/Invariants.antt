@@ -1,10 +1,6 @@
 -- Halfword by halfword the header is written and summed.
-use Rattle.std.proofs.Common.{◌≡◌, length}
 use Rattle.packer.specs.Writing.{Written}
 use Rattle.packer.proofs.writer.Plan.write_header.Given as goal
 
 abbrev pub invariant-loop-j : goal.invariant-loop-j
-invariant-loop-j l = record {
-  long : length l.out ≡ length l.fn.out;
-  written : Written l.self.code.now l.self.w l.self.l l.k l.j l.out l.sum;
-}
+invariant-loop-j l = Written l.self.code.now l.self.w l.self.l l.k l.j l.block l.sum

@@ -3,7 +3,7 @@ use Rattle.std.proofs.Common.{refl}
 use Rattle.std.proofs.lemmas.Result.{err_from_is_err_and}
 use Rattle.image.specs.Check.{first_no, rows_below}
 use Rattle.image.proofs.Answers.{refused_at, passed_too}
-use Rattle.image.proofs.checker.check_blocks.Goals as goal
+use Rattle.image.proofs.file.Blocks.check.Goals as goal
 
 pub loop-k-init : goal.loop-k-init
 unfolding first_no rows_below

@@ -3,7 +3,7 @@ use Rattle.std.proofs.Common.{◌≡◌, ap, ◌∙◌, ◌+◌, ◌-◌, add-on
 use Rattle.image.specs.Block.{halfword}
 use Rattle.image.specs.Check.{unused_zero}
 use Rattle.image.proofs.Answers.{zero_more}
-use Rattle.image.proofs.checker.is_unused_zero.Goals as goal
+use Rattle.image.proofs.block.is_unused_zero.Goals as goal
 
 pub loop-n-init : goal.loop-n-init
 unfolding unused_zero
