@@ -1,11 +1,9 @@
 -- What is put to one instruction, and what it adds to the answer.
 use mathlib.Core.Bool.{Bool, true, false, cond}
 use mathlib.Core.List.{List}
-use mathlib.Core.Path.{◌≡◌, refl, sym, ap, ◌∙◌}
+use mathlib.Core.Path.{◌≡◌, refl, sym, ◌∙◌}
 use Prim.Native.Nat.{ℕ, ◌+◌, ◌≤◌, ◌<◌}
-use native.Mathlib.Omega.{arith}
 use lib.ListN.{length, get_or}
-use Rattle.units.specs.Address.{byte_address_of}
 use Rattle.units.specs.declared.address.ByteAddress.{ByteAddress}
 use Rattle.refusals.specs.declared.check.Check.TheVariants as check
 use Rattle.refusals.specs.Refusal.{refusal_at}
@@ -23,14 +21,6 @@ use Rattle.lister.specs.List.{layout_for, instruction_checks, checks_at}
 use Rattle.lister.specs.Passes.{found_in, CheckedAs}
 use Rattle.std.specs.Prelude.{Option, Some, None, Result, Ok, Err, ⊤}
 use Rattle.refusals.specs.Check.{outcome}
-
--- a code of a length that is right ends at twice its length
-pub layout_is : (code : List ℕ) (end : ByteAddress) → end ≡ byte_address_of (record { 0 = length code })
-    → length code ≤ most_code
-    → ◌≡◌ {A = Layout} (record { code_bytes = end.0; window_start = 0; window_length = 0 }) (layout_for code)
-layout_is code end there most =
-    let twice : end.0 ≡ (layout_for code).code_bytes = ap (λ (a : ByteAddress). a.0) there ∙ omega arith in
-    ap (λ (n : ℕ). record { code_bytes = n; window_start = 0; window_length = 0 }) twice
 
 -- what the first check that fails says is what the checks come to
 row_is : (layout : Layout) (a : ByteAddress) (d : Option Instruction)

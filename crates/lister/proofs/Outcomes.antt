@@ -1,12 +1,12 @@
 -- What the lister's checks come to, and what stands in the output.
-use mathlib.Core.Bool.{Bool, true, false, not, cond}
+use mathlib.Core.Bool.{Bool, true, false, not}
 use mathlib.Core.List.{List, [], ◌∷◌, ◌++◌}
 use mathlib.Core.Path.{◌≡◌, refl, sym, ap, ◌∙◌}
 use Prim.Native.Nat.{ℕ, ◌+◌, ◌≤◌}
 use native.Mathlib.Omega.{arith}
 use borrow.Author.Tests.{leb-true, not-true, not-false}
 use lib.Dec.{leb}
-use lib.ListN.{length, drop, length-append, length-drop}
+use lib.ListN.{length, drop}
 use lib.Seq.{sets-eq}
 use Rattle.refusals.specs.declared.check.Check.TheVariants as check
 use Rattle.refusals.specs.Refusal.{refusal}
@@ -54,7 +54,8 @@ module _ (code : List ℕ) (size : ℕ) where
     then_rows =
         ap (listing_as (listing_of code))
         (passed_head _ _ (sym is ∙ not-false t held) ∙ first_append _ _
-        ∙ ap (λ (x : Result ⊤ Refusal). or_else x (first_no (whole check.OutputLength (check16 code size) ∷ []))) (sym came))
+        ∙ ap (λ (x : Result ⊤ Refusal). or_else x (first_no (whole check.OutputLength (check16 code size) ∷ [])))
+        (sym came))
 
     pub no_instruction : {r : Refusal} → a ≡ Err r → list_of code size ≡ Refuses r
     no_instruction e = rw e at then_rows
@@ -81,15 +82,3 @@ module _ (code : List ℕ) (out : Text) (t : Bool) (is : t ≡ check16 code (len
         × (after ≡ output_after (fitted_of code (length out)) out)
     done n after put =
         rw with_room (ap Ok put.0, put.1 ∙ written_front (listing_of code) out has_room)
-
--- the output stays as long as it was
-pub after_length : (code : List ℕ) (out : Text) → length (output_after (fitted_of code (length out)) out) ≡ length out
-unfolding first_no
-after_length code out = go (check16 code (length out)) refl
-  where
-    go : (t : Bool) → check16 code (length out) ≡ t
-        → length (output_after (listing_as (listing_of code) (cond t (Ok tt) (Err (refusal check.OutputLength)))) out) ≡ length out
-    go true e =
-        let long = leb-true (length (listing_of code)) (length out) e in
-        simp (length-append, length-drop) (omega arith)
-    go false e = refl

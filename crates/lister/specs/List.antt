@@ -87,7 +87,8 @@ check16 code size = leb (length (listing_of code)) size
 -- all that is put, in order
 abbrev pub list_checks : List ℕ → ℕ → List Asked
 list_checks code size =
-    whole check.CodeLength (check15 code) ∷ (rows_below (checks_at code) (length code) ++ (whole check.OutputLength (check16 code size) ∷ []))
+    whole check.CodeLength (check15 code)
+    ∷ (rows_below (checks_at code) (length code) ++ (whole check.OutputLength (check16 code size) ∷ []))
 
 -- the text, or the refusal
 pub data Listing : Type 0 where
