@@ -1,5 +1,5 @@
 -- The code of a fit file lies in the file, and code and window lie in memory.
-use Rattle.std.proofs.Common.{arith}
+use Rattle.std.proofs.Common.{arith, rules}
 use Rattle.loader.proofs.Fit.{window_fits, code_there, placed}
 use Rattle.loader.proofs.loader.place.Goals as goal
 
@@ -16,5 +16,5 @@ clear_window-requires c =
 pub returns : goal.returns
 returns c =
     placed c.args.file.now c.args.layout c.requires _ c.count.ensures
-    (λ p. omega (arith, c.type_inv.file p)) c.args.memory.now _ _ c.requires.memory_len c.copy_code.ensures
+    (λ p. omega (arith, c.type_inv.file p)) c.args.memory.now _ _ (search rules) c.copy_code.ensures
     c.clear_window.ensures
