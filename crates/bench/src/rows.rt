@@ -10,17 +10,9 @@ pub(crate) fn print_shift(rt: &impl Print) {
     let mut memory = [0u8; 65536];
     memory[0] = 0x88;
     memory[1] = 0x40;
-    let mut regs = [0u16; 16];
-    regs[0] = 0x4000;
-    regs[1] = 15;
-    let start = Machine {
-        regs,
-        n: false,
-        z: false,
-        c: false,
-        v: false,
-        note: 0,
-    };
+    let mut start = Machine::default();
+    start.regs[0] = 0x4000;
+    start.regs[1] = 15;
     let m = stepper::step_value(start, &mut memory).machine;
     let Machine { regs, z, c, .. } = m;
     let shifted = regs[0];

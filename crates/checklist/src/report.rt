@@ -12,18 +12,6 @@ use runner::RunOutcome;
 use std::io;
 use streams::Ascii;
 
-// A machine as it starts: all registers, flags and the note 0.
-fn cleared() -> Machine {
-    Machine {
-        regs: [0u16; 16],
-        n: false,
-        z: false,
-        c: false,
-        v: false,
-        note: 0,
-    }
-}
-
 // How many blocks a reader of the file gives before it has none left, by what the
 // checks said of it.
 fn count_blocks(file: &[u8], checked: Result<Layout, Refusal>) -> usize
@@ -67,7 +55,7 @@ fn print_run(rt: &impl Print, file: &[u8], budget: u32) -> io::Result<()> {
     let mut memory = [0u8; 65536];
     match loader::load(file, &mut memory) {
         Ok(_) => {
-            let ran = runner::run(cleared(), &mut memory, budget);
+            let ran = runner::run(Machine::default(), &mut memory, budget);
             print_ran(rt, ran.outcome, ran.count, ran.machine.note)
         }
         Err(refusal) => print_refusal(rt, file, refusal),

@@ -4,6 +4,7 @@
 // instructions themselves. For the same reason few tests are on the way: ten
 // bits tell an operation on registers, five all else but a branch, and a
 // branch's upper byte its condition.
+//
 // Registers, control, memory, log and step are parameters of their own: of a struct
 // with the three `&mut` each contract would have to say that it still holds them.
 ghost use Rattle.std.specs.Prelude.{◌≡◌};
@@ -82,7 +83,8 @@ fn execute_other(
     }
 }
 
-// Does what a halfword says on a machine that is held and its memory.
+// Does what a halfword says on a machine that is held and its memory. Each value
+// has an arm: of a range of them the compiler makes comparisons in front of its table.
 fn execute(
     regs: &mut [u16; 16],
     k: Control,
@@ -116,9 +118,8 @@ fn execute(
     }
 }
 
-// One step. HALT's note is left to whoever has
-// the machine. A load or store that completes puts itself into the log, as the
-// step with this number.
+// One step. HALT's note is left to whoever has the machine. A load or store that
+// completes puts itself into the log, as the step with this number.
 pub fn fetch_and_execute(
     regs: &mut [u16; 16],
     k: Control,

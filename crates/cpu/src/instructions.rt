@@ -1,6 +1,8 @@
 // One function an instruction, in the manual's order and named after its page. It
 // takes its fields out of the halfword itself. ADD and MOV of two of R0 to R7
-// have functions of their own: they have nothing to do with the PC.
+// have functions of their own: they have nothing to do with the PC. The control
+// comes by value beside the lent registers: behind the same `&mut` it would be kept
+// in memory, where each step waits for the one before.
 ghost use Rattle.std.specs.Prelude.{◌≡◌, ◌+◌, ◌<◌, slice_index, slice_set};
 ghost use Rattle.units.specs.Address.{wrap};
 ghost use Rattle.units.specs.Field.{field, high_rs, high_rd};

@@ -1,6 +1,6 @@
 // The registers, the flags and the note that HALT leaves. R15 is the PC.
 #[repr(C)]
-#[derive(Clone, Copy)]
+#[derive(Clone, Copy, PartialEq, Eq, Debug, Default)]
 pub struct Machine {
     pub regs: [u16; 16],
     pub n: bool,

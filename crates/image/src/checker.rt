@@ -37,7 +37,8 @@ fn has_whole_blocks(file: &[u8]) -> bool
 }
 
 // Check 8, of `c` bytes of code and the window of `l` bytes from `w`: the window
-// is aligned, not empty, after the code, and ends in memory.
+// is aligned, not empty, after the code, and ends in memory. The packer asks it of
+// numbers that no file says yet, so they are no layout.
 #[tactic(auto, unfolding(crate::specs::Check::check8))]
 pub fn is_window(c: u16, w: u16, l: u16) -> bool
     ensures { result ≡ check8 c w l }

@@ -6,7 +6,8 @@ use super::format::{BLOCK_BYTES, BLOCK_CODE, HEADER_BYTES};
 use units::{InstructionIndex, halfword_at};
 
 // The halfword of instruction `i`, for a caller that knows that the file has it:
-// an accepted file has every instruction of its code.
+// an accepted file has every instruction of its code. It asks for no more than
+// that, so that a file which isn't accepted can be shown, too.
 #[tactic(auto, unfolding(crate::specs::Code::code_at))]
 pub fn code_at(file: &[u8], i: InstructionIndex) -> u16
     requires { code_position i.0 + 2 ≤ length file.now }

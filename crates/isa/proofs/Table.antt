@@ -32,7 +32,8 @@ entry_past (d ∷ ds) zero h = absurd (not-suc-le-zero h)
 entry_past (d ∷ ds) (suc n) h = entry_past ds n (le_of_suc-le-suc h)
 
 -- what the arm k of a `match` on b answers, where b is the place; and its `_`
-pub arm : (ds : List (Option Instruction)) (k : ℕ) {b n : ℕ} {d : (Option Instruction)} → b ≡ n → b ≡ k → d ≡ entry ds k → d ≡ entry ds n
+pub arm : (ds : List (Option Instruction)) (k : ℕ) {b n : ℕ} {d : Option Instruction} → b ≡ n → b ≡ k
+    → d ≡ entry ds k → d ≡ entry ds n
 arm ds k place is p = p ∙ ap (entry ds) (sym is ∙ place)
 
 pub no_arm : (ds : List (Option Instruction)) {b n : ℕ} → b ≡ n → length ds ≤ b → None ≡ entry ds n

@@ -2,6 +2,8 @@
 // halfword holds them. `rd` and `rs` are registers, `rb` a base register.
 // `MovImm` is the manual's MOV(1), `MovHigh` its MOV(2); `AddHigh` its ADD(1),
 // `AddPc` its ADD(2); `CmpImm`, `Cmp` and `CmpHigh` its CMP(1), (2) and (3).
+// A field is a byte of any value, and no type with fewer: which values form an
+// instruction is what the encoder is asked (check 17).
 #[derive(Clone, Copy, PartialEq, Eq, Debug)]
 pub enum Instruction {
     MovImm { rd: u8, imm: u8 },

@@ -22,7 +22,8 @@ abbrev pub There : Instruction → Result ℕ Refusal → Type 0
 There i (Ok h) = decode_of h ≡ Some i
 There i (Err r) = Unit {0}
 
-given_elim : (P : Result ℕ Refusal → Type 0) → P (Err (refusal check.Fields)) → (b : Bool) (e : Result ℕ Refusal) → (b ≡ true → P e)
+given_elim : (P : Result ℕ Refusal → Type 0) → P (Err (refusal check.Fields)) → (b : Bool) (e : Result ℕ Refusal)
+    → (b ≡ true → P e)
     → P (given b e)
 given_elim P u true e f = f refl
 given_elim P u false e f = u

@@ -28,7 +28,7 @@ fn block_at(file: &[u8], next: usize) -> Option<usize>
 }
 
 // The answer to a call at block `next` of a file of which the checks said
-// `checked`. Refused, a block and none left are told apart here and nowhere else.
+// `checked`: a caller with no reader has the three by themselves.
 fn given_as(
     file: &[u8],
     next: usize,

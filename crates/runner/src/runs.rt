@@ -58,7 +58,8 @@ pub struct Ran {
     pub traffic: Traffic,
 }
 
-// Steps until `budget` of them are completed or one doesn't complete. It is put
+// Steps until `budget` of them are completed or one doesn't complete. The machine
+// is flat, as C has it, so its flags are taken out here and put back. It is put
 // into its callers: a machine that comes through one function more is copied once
 // more, which takes a single step a fifth longer.
 #[inline(always)]

@@ -48,7 +48,8 @@ impl<'a> Writer<'a> {
         }
     }
 
-    // Writes the digits of a number, each that it has.
+    // Writes the digits of a number, each that it has: a call for each part of the
+    // definition, of which a loop's invariant would have to say as much.
     fn put_digits(&mut self, n: u16)
         requires { Fits (decimal n) self.old }
         ensures { Grew (decimal n) self.old self.new }

@@ -12,12 +12,12 @@ use Rattle.std.specs.Prelude.{Result, Ok, Err, ⊤}
 use Rattle.refusals.specs.declared.refusal.Refusal.{Refusal}
 
 module _ (code : List ℕ) (layout : Layout) where
-  fit_answer : (said : Layout) (a : Result ⊤ Refusal) → verdict_as layout a ≡ Ok said → (a ≡ (Ok tt)) × (layout ≡ said)
+  fit_answer : (said : Layout) (a : Result ⊤ Refusal) → verdict_as layout a ≡ Ok said → (a ≡ Ok tt) × (layout ≡ said)
   fit_answer said (Ok tt) e = (refl, cc)
   fit_answer said (Err r) e = clash (cc)
 
   pub code_fit : (said : Layout) → verify_code code layout ≡ Ok said
-      → (first_no (code_checks code layout (length code)) ≡ (Ok tt)) × (layout ≡ said)
+      → (first_no (code_checks code layout (length code)) ≡ Ok tt) × (layout ≡ said)
   unfolding verify_code
   code_fit said e = fit_answer said (first_no (code_checks code layout (length code))) e
 

@@ -99,18 +99,18 @@ module _ (code : List ℕ) (layout : Layout) where
   unfolding verify_code
   verdict_is x e = sym (ap (verdict_as layout) e)
 
-  pub fit : first_no (code_checks code layout (length code)) ≡ (Ok tt) → Ok layout ≡ verify_code code layout
+  pub fit : first_no (code_checks code layout (length code)) ≡ Ok tt → Ok layout ≡ verify_code code layout
   fit e = verdict_is (Ok tt) e
 
   -- the first instruction that does not pass decides
-  pub refusal : (n : ℕ) (r : Refusal) → n < length code → first_no (code_checks code layout n) ≡ (Ok tt)
+  pub refusal : (n : ℕ) (r : Refusal) → n < length code → first_no (code_checks code layout n) ≡ Ok tt
       → first_no (checks_at code layout n) ≡ Err r → Err r ≡ verify_code code layout
   refusal n r h e q =
       verdict_is (Err r) (stands (checks_at code layout) (suc n) (length code) r h
       (next (checks_at code layout) n e ∙ q))
 
   -- before the last instruction check 14 says nothing
-  passed : (n : ℕ) → n < length code → PassedBelow code layout n → first_no (code_checks code layout n) ≡ (Ok tt)
+  passed : (n : ℕ) → n < length code → PassedBelow code layout n → first_no (code_checks code layout n) ≡ Ok tt
   passed zero h e = e
   passed (suc n) h e = e ∙ rw (ne_eqb (suc n) (length code) (λ (p : suc n ≡ length code). omega arith)) refl
 
@@ -151,7 +151,7 @@ module _ {code : List ℕ} (marks : List ℕ) {layout : Layout} {n h : ℕ} {i :
 
   pub decided : Decides code layout n answer after
   decided =
-      let so_far : first_no (code_checks code layout n) ≡ (Ok tt) = passed code layout n inside walked.passed in
+      let so_far : first_no (code_checks code layout n) ≡ Ok tt = passed code layout n inside walked.passed in
       let last : Bool = eqb (suc n) (length code) in
       let come_to : answer_at a (found_in before layout a (decode_of h)) ≡ answer =
       sym (answered ∙ ap (answer_at a) visited.found) in

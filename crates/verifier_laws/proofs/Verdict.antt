@@ -25,7 +25,7 @@ use Rattle.isa.specs.declared.instruction.Instruction.{Instruction}
 -- where rows of checks are refused, there is a first row that is
 module _ (row : ℕ → List Asked) (r : Refusal) where
   abbrev FirstBelow : ℕ → Type 0
-  FirstBelow n = (i : ℕ) × (i < n) × (first_no (rows_below row i) ≡ (Ok tt)) × (first_no (row i) ≡ Err r)
+  FirstBelow n = (i : ℕ) × (i < n) × (first_no (rows_below row i) ≡ Ok tt) × (first_no (row i) ≡ Err r)
 
   first_no_is : (n : ℕ) → first_no (rows_below row n) ≡ Err r → FirstBelow n
   unfolding rows_below first_no
@@ -45,7 +45,7 @@ module _ (code : List ℕ) (layout : Layout) where
   passes : (i : ℕ) (d : Option Instruction) → decoded_at code i ≡ d
       → first_no (halfword_checks (values_at code i) layout (address_of i) (eqb (suc i) (length code)) (get_or code i 0)
       d)
-      ≡ (Ok tt)
+      ≡ Ok tt
       → Passes code layout i
   passes i (Some instruction) q e₉ =
       let e₁₀ = tail_passed _ _ e₉ in
@@ -64,16 +64,16 @@ module _ (code : List ℕ) (layout : Layout) where
       }
   passes i None q e = let p = head_passed _ _ e in clash (cc)
 
-  checks_pass : (i : ℕ) → Passes code layout i → first_no (checks_at code layout i) ≡ (Ok tt)
+  checks_pass : (i : ℕ) → Passes code layout i → first_no (checks_at code layout i) ≡ Ok tt
   unfolding first_no
   checks_pass i p = rw (p.passes9, p.passes10, p.passes11, p.passes12, p.passes13, p.passes14) refl
 
   -- ---- the code
 
-  below_passes : (n i : ℕ) → first_no (code_checks code layout n) ≡ (Ok tt) → i < n → Passes code layout i
+  below_passes : (n i : ℕ) → first_no (code_checks code layout n) ≡ Ok tt → i < n → Passes code layout i
   below_passes n i e h = passes i (decoded_at code i) refl (each_passed (checks_at code layout) i n h e)
 
-  below_pass : (n : ℕ) → ((i : ℕ) → i < n → Passes code layout i) → first_no (code_checks code layout n) ≡ (Ok tt)
+  below_pass : (n : ℕ) → ((i : ℕ) → i < n → Passes code layout i) → first_no (code_checks code layout n) ≡ Ok tt
   below_pass n all = all_passed (checks_at code layout) n (λ i h. checks_pass i (all i h))
 
   -- ---- the verdict on the code
