@@ -311,7 +311,8 @@ module _ (items : List Item) (notes : List Note) where
               → made_of (saying k (field_said o) (check_from items (suc k) (next_number x i) xs))
               ≡ make_from items (flaw_after None above (x ∷ xs)) notes (suc (instructions_in xs)) i
           go (some j) e =
-              spoken_on (Instructs j) (λ z. clash (cc)) (made ∙ ap (λ (o : Option Instruction). Ok (field_halfword o)) e)
+              spoken_on (Instructs j) (λ z. clash (cc))
+              (made ∙ ap (λ (o : Option Instruction). Ok (field_halfword o)) e)
               (rw (l, b, e) refl) later
           go none e =
               let stops = ends (suc i) check.Value (instruction_counted above x l) (rw (l, b, e) refl) in

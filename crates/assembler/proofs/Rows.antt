@@ -83,7 +83,8 @@ module _ (i j condition : ℕ) where
           let byte : offset ≡ branch_byte i j = omega arith in
           ap (λ (b : ℕ). encode_of (Branch condition b)) byte
 
-  pub branch_down : {r : Result ℕ Check} → j < i → i - j ≤ 128 → r ≡ field_meaning (some (Branch condition (256 - (i - j))))
+  pub branch_down : {r : Result ℕ Check} → j < i → i - j ≤ 128
+      → r ≡ field_meaning (some (Branch condition (256 - (i - j))))
       → r ≡ field_meaning (given (in_reach i j) (Branch condition (branch_byte i j)))
   branch_down h l p =
       let reach : in_reach i j ≡ true = rw (le-leb i (j + 128) (omega arith), le-leb j (i + 127) (omega arith)) refl in

@@ -27,5 +27,6 @@ module _ (row : ℕ) (notes : List Note) (i : ℕ) (note : Note) where
   pub notes_label : row ≡ 0 → notes ≡ notes_after row notes i note
   notes_label e = rw (eq-eqb row 0 e)
 
-  pub notes_other : {after : List Note} → (row ≡ 0 → ⊥) → after ≡ set notes i note → after ≡ notes_after row notes i note
+  pub notes_other : {after : List Note} → (row ≡ 0 → ⊥) → after ≡ set notes i note
+      → after ≡ notes_after row notes i note
   notes_other e p = rw (ne_eqb row 0 e) p

@@ -278,12 +278,14 @@ module _ (table : List Entry) (items : List Item) (m at : ℕ) (n : m ≡ 0 → 
       (stays_aim (name_at table b) items (label_item m ∷ []) _ (h.stored b (λ w. z (ap (λ (e : Entry). e.name) o ∙ w))))
 
   still_free : (name b : ℕ) (x : Bool) → eqb m name ≡ x → (name ≡ 0 → ⊥)
-      → probe_from (length table) tries (home (length table) name) after name ≡ Free b → definition_of name longer ≡ none
+      → probe_from (length table) tries (home (length table) name) after name ≡ Free b
+      → definition_of name longer ≡ none
   unfolding probe_of
   still_free name b true q z r =
       let w : m ≡ name = eqb-true m name q in
       here_free at b
-      (sym (probe_put (length table) table at m (0 + instructions_in items) zero_at room tries (home (length table) m) e)
+      (sym (probe_put (length table) table at m (0 + instructions_in items) zero_at room tries
+      (home (length table) m) e)
       ∙ ap (λ (y : ℕ). probe_from (length table) tries (home (length table) y) after y) w ∙ r)
   still_free name b false q z r =
       let d = probe_before (length table) table at m (0 + instructions_in items) zero_at room tries

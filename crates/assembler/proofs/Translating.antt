@@ -14,8 +14,8 @@ use Rattle.syntax.specs.Syntax.{Item}
 use Rattle.assembler.specs.Assemble.{check_from}
 use Rattle.assembler.specs.Assembled.{refusal_at}
 use Rattle.assembler.specs.Reading.{blank}
-use Rattle.assembler.specs.Passes.{Ready, Aimed, items_of, noted_meaning, Made, Codes, Breaks, made_of, making, above_as}
-use Rattle.assembler.specs.Passes.{unless_flawed, make_from, translated_as, put_from, Written}
+use Rattle.assembler.specs.Passes.{Ready, Aimed, items_of, noted_meaning, Made, Codes, Breaks, made_of, making}
+use Rattle.assembler.specs.Passes.{above_as, unless_flawed, make_from, translated_as, put_from, Written}
 use Rattle.assembler.specs.declared.reader.Counted.{Counted}
 use Rattle.assembler.specs.declared.reader.Note.{Note}
 use Rattle.assembler.specs.declared.refusal.TextRefusal.{TextRefusal}

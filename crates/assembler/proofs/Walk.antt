@@ -157,7 +157,8 @@ entries_length row table name number = go (eqb row 0)
     go true = after_length table name number
     go false = refl
 
-notes_length : (row : ℕ) (notes : List Note) (i : ℕ) (note : Note) → length (notes_after row notes i note) ≡ length notes
+notes_length : (row : ℕ) (notes : List Note) (i : ℕ) (note : Note)
+    → length (notes_after row notes i note) ≡ length notes
 notes_length row notes i note = go (eqb row 0)
   where
     go : (b : Bool) → length (cond b notes (set notes i note)) ≡ length notes

@@ -76,7 +76,8 @@ Unless false t = t
 abbrev pub Noted : List Note → List Item → List Item → Type 0
 Noted notes above [] = Unit {0}
 Noted notes above (x ∷ xs) =
-    Unless (is_label x) (NotedAt notes x (instructions_in above) (1 + length above)) × Noted notes (above ++ (x ∷ [])) xs
+    Unless (is_label x) (NotedAt notes x (instructions_in above) (1 + length above))
+    × Noted notes (above ++ (x ∷ [])) xs
 
 -- of a text that was read: its labels are in the table, and its instructions are noted if there is room for them
 pub record Gathered (table : List Entry) (notes : List Note) (items : List Item) : Type 0 where

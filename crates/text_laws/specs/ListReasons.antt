@@ -30,6 +30,8 @@ pub data ListReason (code : List ℕ) (size : ℕ) : Refusal → Type 0 where
       → ListReason code size (refusal_at check.Defined (address_of n))
   -- 13: it is a branch out of the code
   outside : (n : ℕ) (x : Instruction) → n < length code → ListableTo code n → decoded_at code n ≡ Some x
-      → check13 (layout_for code) (address_of n) x ≡ false → ListReason code size (refusal_at check.Target (address_of n))
+      → check13 (layout_for code) (address_of n) x ≡ false
+      → ListReason code size (refusal_at check.Target (address_of n))
   -- 16: all are listable, and the output is shorter than the listing
-  too_short : ListableTo code (length code) → size < length (listing_of code) → ListReason code size (refusal check.OutputLength)
+  too_short : ListableTo code (length code) → size < length (listing_of code)
+      → ListReason code size (refusal check.OutputLength)

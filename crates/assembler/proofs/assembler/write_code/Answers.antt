@@ -3,7 +3,8 @@ use Rattle.std.proofs.Common.{arith}
 use Rattle.std.proofs.lemmas.Result.{err_from_is_err_and}
 use Rattle.assembler.proofs.Assembling.{too_few, too_many, line_fails, no_room, code_done}
 use Rattle.assembler.proofs.assembler.write_code.Goals as goal
-use Rattle.assembler.proofs.assembler.write_code.Goals.{then-size-lt1-via-then-size-lt1, then-size-lt1-via-else-size-lt1+then-size-gt-MOST_CODE}
+use Rattle.assembler.proofs.assembler.write_code.Goals.{then-size-lt1-via-then-size-lt1}
+use Rattle.assembler.proofs.assembler.write_code.Goals.{then-size-lt1-via-else-size-lt1+then-size-gt-MOST_CODE}
 
 pub returns-then-size-lt1 : goal.returns-then-size-lt1
 returns-then-size-lt1 c =

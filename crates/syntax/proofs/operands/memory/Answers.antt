@@ -9,7 +9,8 @@ returns-then-byte_at-ne91 c =
 
 pub returns-in_err-b : goal.returns-in_err-b
 returns-in_err-b c =
-    rw c.from_residual.ensures (base_missing c.args.text.now c.args.at c.args.row c.args.a (sym c.byte_at.ensures ∙ c.if-byte_at-ne91.false)
+    rw c.from_residual.ensures
+    (base_missing c.args.text.now c.args.at c.args.row c.args.a (sym c.byte_at.ensures ∙ c.if-byte_at-ne91.false)
     c.in_err-b.ensures)
 
 pub returns-then-b-ge8 : goal.returns-then-b-ge8

@@ -14,7 +14,8 @@ returns-then-byte_at-ne35 c =
 
 pub returns-in_err-n : goal.returns-in_err-n
 returns-in_err-n c =
-    rw c.from_residual.ensures (no_offset c.args.text.now c.args.at c.args.row c.args.a c.args.b (sym c.two_at.ensures ∙ c.if-not-two_at.false)
+    rw c.from_residual.ensures
+    (no_offset c.args.text.now c.args.at c.args.row c.args.a c.args.b (sym c.two_at.ensures ∙ c.if-not-two_at.false)
     (sym c.byte_at.ensures ∙ c.if-byte_at-ne35.false) c.in_err-n.ensures)
 
 pub returns-then-byte_at-ne93 : goal.returns-then-byte_at-ne93

@@ -8,7 +8,8 @@ returns-then-not-two_at c = no_hash c.args.text.now c.args.at (sym c.two_at.ensu
 
 pub returns-in_err-n : goal.returns-in_err-n
 returns-in_err-n c =
-    rw c.from_residual.ensures (no_note c.args.text.now c.args.at (sym c.two_at.ensures ∙ c.if-not-two_at.false) c.in_err-n.ensures)
+    rw c.from_residual.ensures
+    (no_note c.args.text.now c.args.at (sym c.two_at.ensures ∙ c.if-not-two_at.false) c.in_err-n.ensures)
 
 pub returns : goal.returns
 returns c =

@@ -26,7 +26,12 @@ returns-then-e-lt48 c =
     (sym c.byte_at-d.ensures ∙ c.if-d-ne49.false)
     (elim c.then-e-lt48.branch [
       | then-e-lt48-via-then-e-lt48 w ↦
-          λ q. omega (arith, c.byte_at-e.ensures, w.if-e-lt48.true, digit_low (get_or c.args.text.now (c.args.at + 2) 0) q)
+          λ q. omega (
+            arith,
+            c.byte_at-e.ensures,
+            w.if-e-lt48.true,
+            digit_low (get_or c.args.text.now (c.args.at + 2) 0) q,
+          )
       | then-e-lt48-via-else-e-lt48+then-e-gt53 w ↦ λ q. omega (arith, c.byte_at-e.ensures, w.if-e-gt53.true)
     ])
 
