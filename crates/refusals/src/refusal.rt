@@ -37,34 +37,31 @@ pub struct Refusal {
 impl Refusal {
     ghost use Rattle.refusals.specs.Refusal.{refusal, refusal_in_block, refusal_at, refusal_word};
 
+    fn with_place(check: Check, place: Place) -> Refusal
+        ensures { (result.check ≡ check) × (result.place ≡ place) }
+    {
+        Refusal { check, place }
+    }
+
     // The refusal of a check that has no place.
     pub fn new(check: Check) -> Refusal
         ensures { result ≡ refusal check }
     {
-        Refusal {
-            check,
-            place: Place::Nowhere,
-        }
+        Refusal::with_place(check, Place::Nowhere)
     }
 
     // The refusal of a check of block `k`.
     pub fn in_block(check: Check, k: u8) -> Refusal
         ensures { result ≡ refusal_in_block check k }
     {
-        Refusal {
-            check,
-            place: Place::Block(k),
-        }
+        Refusal::with_place(check, Place::Block(k))
     }
 
     // The refusal of a check of the instruction at an address.
     pub fn at(check: Check, a: ByteAddress) -> Refusal
         ensures { result ≡ refusal_at check a }
     {
-        Refusal {
-            check,
-            place: Place::Address(a),
-        }
+        Refusal::with_place(check, Place::Address(a))
     }
 
     // A refusal in one number, its place above its own.

@@ -2,7 +2,7 @@
 // read into a buffer, and a read or a write that fails is told on standard error.
 #![tactic(auto)]
 
-ghost use Rattle.std.specs.Prelude.{◌≤◌};
+ghost use Rattle.std.specs.Prelude.{◌≤◌, IfSome};
 ghost use Rattle.std.specs.Io.{ReadsAtMost};
 
 use std::env::FillError;
@@ -25,6 +25,7 @@ pub fn count_arguments(rt: &impl Env, most: usize) -> usize
 // What `read` makes of argument `i`, if that has no more than 4096 bytes.
 pub fn read_argument<T, F: FnOnce(&[u8]) -> T>(rt: &impl Env, i: usize, read: F) -> Option<T>
     requires { F.IsAlwaysCallable read }
+    ensures { IfSome result (λ t. (text : _) × F.post read text t) }
 {
     let mut text = [0u8; 4096];
     let n = rt.arg(i, &mut text).ok()?;
@@ -48,7 +49,7 @@ pub fn read_full(rt: &impl Input, buffer: &mut [u8]) -> io::Result<usize>
     Ok(done)
 }
 
-// ASCII text that is held in bytes, for printing.
+// ASCII text that is held in bytes, for printing, of which no contract speaks.
 #[derive(Clone, Copy)]
 pub struct Ascii<'a>(pub &'a [u8]);
 
@@ -81,7 +82,8 @@ pub fn say_failure(
 }
 
 // Reads the input into the room and hands it to `answer`, which writes what the program
-// has to say of it. A read or a write that fails is told under the program's name.
+// has to say of it. A read or a write that fails is told under the program's name. What
+// the input has, and what is printed, no contract can tell.
 pub fn answer_input<F: FnOnce(&[u8]) -> io::Result<()>>(
     rt: &(impl Input + Eprint + AllocGlobal),
     program: &str,

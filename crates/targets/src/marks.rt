@@ -13,11 +13,14 @@ pub struct Marks {
 }
 
 impl Model for Marks {
-    ghost use Rattle.std.specs.Prelude.{List, ℕ};
+    ghost use Rattle.std.specs.Prelude.{◌≡◌, List, ℕ, length};
+    ghost use Rattle.targets.specs.Targets.{mark_words};
 
     ghost Value = { List ℕ };
 
     ghost view = { λ marks. marks.words };
+
+    ghost invariant = { λ marks. length marks.words ≡ mark_words };
 }
 
 impl Marks {
