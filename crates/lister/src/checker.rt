@@ -8,7 +8,7 @@ ghost use Rattle.checks.specs.Questions.{stays_in_code, answer_at};
 ghost use Rattle.lister.specs.List.{layout_for};
 ghost use Rattle.lister.specs.Passes.{found_in, CheckedAs};
 
-use checks::check_target;
+use checks::{answer_at, check_target};
 use image::Layout;
 use isa::decode;
 use refusals::{Check, Refusal};
@@ -39,7 +39,7 @@ fn check_jump(layout: Layout, target: Option<ByteAddress>) -> Result<(), Check>
 }
 
 // The first of checks 9 and 13 that the halfword at an address fails, if one does.
-fn check_halfword(layout: Layout, a: ByteAddress, h: u16) -> Result<(), Check>
+fn check_listable(layout: Layout, a: ByteAddress, h: u16) -> Result<(), Check>
     ensures { result ≡ found_in layout a (decode_of h) }
 {
     match decode(h) {
@@ -52,7 +52,7 @@ fn check_halfword(layout: Layout, a: ByteAddress, h: u16) -> Result<(), Check>
 fn check_at(layout: Layout, a: ByteAddress, h: u16) -> Result<(), Refusal>
     ensures { result ≡ answer_at a (found_in layout a (decode_of h)) }
 {
-    check_halfword(layout, a, h).map_err(|check| Refusal::at(check, a))
+    answer_at(a, check_listable(layout, a, h))
 }
 
 // Checks 9 and 13 of a code, instruction by instruction, lowest address first.

@@ -1,10 +1,10 @@
 // The lister: checks 15, 9, 13 and 16, and the text.
 ghost use Rattle.std.specs.Prelude.{◌≡◌, length};
 ghost use Rattle.lister.specs.List.{check15, check16, list_of, listed_as, output_after};
-ghost use Rattle.lister.specs.Passes.{Labelled, fitted_of};
+ghost use Rattle.lister.specs.Passes.{fitted_of};
 
 use super::checker::check_code;
-use super::writer::{measure, write};
+use super::writer::Marked;
 use image::MOST_CODE;
 use refusals::{Check, Refusal};
 use targets::Marks;
@@ -20,26 +20,26 @@ fn is_program(code: &[u16]) -> bool
 // of STRB, and a branch and its label have no more together.
 const MOST_EACH: usize = 19;
 
-// Check 16 of a code that passes the others. Where the room is enough for any code
-// of the length, the listing is not measured.
-fn has_room(code: &[u16], marks: &Marks, room: usize) -> bool
-    requires { Labelled code.now marks.now }
-    ensures { result ≡ check16 code.now room }
-{
-    MOST_EACH * code.len() <= room || measure(code, marks) <= room
-}
-
-// Check 16, and the listing.
-fn write_listing(code: &[u16], marks: &Marks, out: &mut [u8]) -> Result<usize, Refusal>
-    requires { Labelled code.now marks.now }
-    ensures { (result ≡ listed_as (fitted_of code.now (length out.old)))
-        × (out.new
-        ≡ output_after (fitted_of code.now (length out.old)) out.old) }
-{
-    if !has_room(code, marks, out.len()) {
-        return Err(Refusal::new(Check::OutputLength));
+impl Marked<'_> {
+    // Check 16 of a code that passes the others. Where the room is enough for any code
+    // of the length, the listing is not measured.
+    fn has_room(self, room: usize) -> bool
+        ensures { result ≡ check16 self.entry.code.now room }
+    {
+        MOST_EACH * self.code.len() <= room || self.measure() <= room
     }
-    Ok(write(out, code, marks))
+
+    // Check 16, and the listing.
+    fn write_listing(self, out: &mut [u8]) -> Result<usize, Refusal>
+        ensures { (result ≡ listed_as (fitted_of self.entry.code.now (length out.old)))
+            × (out.new
+            ≡ output_after (fitted_of self.entry.code.now (length out.old)) out.old) }
+    {
+        if !self.has_room(out.len()) {
+            return Err(Refusal::new(Check::OutputLength));
+        }
+        Ok(self.write(out))
+    }
 }
 
 // Writes a code as a text: a line for each instruction, and before each that a
@@ -55,5 +55,5 @@ pub fn list(code: &[u16], out: &mut [u8]) -> Result<usize, Refusal>
     }
     let mut marks = Marks::new();
     check_code(code, &mut marks)?;
-    write_listing(code, &marks, out)
+    Marked { code, marks: &marks }.write_listing(out)
 }

@@ -64,29 +64,39 @@ fn lines_length(marks: &Marks, i: InstructionIndex, h: u16) -> usize
     out.at
 }
 
-// The length of a code's listing.
-pub(crate) fn measure(code: &[u16], marks: &Marks) -> usize
-    requires { Labelled code.now marks.now }
-    ensures { result ≡ length (listing_of code.now) }
-{
-    let mut n = 0;
-    for (k, &h) in code.iter().enumerate() {
-        n += lines_length(marks, InstructionIndex(k as u16), h);
-    }
-    n
+// A code that fits an image, and the marks of its branch targets.
+#[derive(Clone, Copy)]
+pub(crate) struct Marked<'a> {
+    pub(crate) code: &'a [u16],
+    pub(crate) marks: &'a Marks,
+    ghost labelled: { Labelled code.now marks.now },
 }
 
-// Writes a code's listing at the front of an output that has room for it, and
-// answers its length.
-pub(crate) fn write(out: &mut [u8], code: &[u16], marks: &Marks) -> usize
-    requires labelled { Labelled code.now marks.now }
-    requires code_in_bounds { length (listing_of code.now) ≤ length out.old }
-    ensures { (result ≡ length (listing_of code.now))
-        × (out.new ≡ written 0 (listing_of code.now) out.old) }
-{
-    let mut text = Writer::new(out);
-    for (k, &h) in code.iter().enumerate() {
-        put_lines(&mut text, marks, InstructionIndex(k as u16), h);
+// Two loops over the same lines: `measure` adds up the lengths of lines that are each
+// written into a room of their own, `write` lends all of them the output.
+impl Marked<'_> {
+    // The length of the listing.
+    pub(crate) fn measure(self) -> usize
+        ensures { result ≡ length (listing_of self.entry.code.now) }
+    {
+        let mut n = 0;
+        for (k, &h) in self.code.iter().enumerate() {
+            n += lines_length(self.marks, InstructionIndex(k as u16), h);
+        }
+        n
     }
-    text.at
+
+    // Writes the listing at the front of an output that has room for it, and
+    // answers its length.
+    pub(crate) fn write(self, out: &mut [u8]) -> usize
+        requires { length (listing_of self.code.now) ≤ length out.old }
+        ensures { (result ≡ length (listing_of self.entry.code.now))
+            × (out.new ≡ written 0 (listing_of self.entry.code.now) out.old) }
+    {
+        let mut text = Writer::new(out);
+        for (k, &h) in self.code.iter().enumerate() {
+            put_lines(&mut text, self.marks, InstructionIndex(k as u16), h);
+        }
+        text.at
+    }
 }

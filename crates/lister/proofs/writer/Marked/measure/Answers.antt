@@ -2,7 +2,7 @@
 use Rattle.std.proofs.Common.{refl, arith}
 use Rattle.lister.specs.List.{listing_below}
 use Rattle.lister.proofs.Listing.{measured_more, measured_small}
-use Rattle.lister.proofs.writer.measure.Goals as goal
+use Rattle.lister.proofs.writer.Marked.measure.Goals as goal
 
 pub loop-k-init : goal.loop-k-init
 unfolding listing_below
@@ -12,9 +12,9 @@ pub overflow_add-n : goal.overflow_add-n
 overflow_add-n c =
     omega (
       arith,
-      measured_small _ _ c.requires _ c.loop-k-test.true _ _ c.loop-k.invariant c.lines_length-n.ensures,
+      measured_small _ _ c.args.self.labelled _ c.loop-k-test.true _ _ c.loop-k.invariant c.lines_length-n.ensures,
     )
 
 pub loop-k-preserved : goal.loop-k-preserved
 loop-k-preserved c =
-    measured_more _ _ c.requires _ c.loop-k-test.true _ _ c.loop-k.invariant c.lines_length-n.ensures
+    measured_more _ _ c.args.self.labelled _ c.loop-k-test.true _ _ c.loop-k.invariant c.lines_length-n.ensures

@@ -3,7 +3,7 @@ use Rattle.std.proofs.Common.{refl, rules}
 use Rattle.lister.specs.List.{listing_below}
 use Rattle.text.proofs.Writing.{grew_none}
 use Rattle.lister.proofs.Listing.{lines_fit, lines_next}
-use Rattle.lister.proofs.writer.write.Goals as goal
+use Rattle.lister.proofs.writer.Marked.write.Goals as goal
 
 pub loop-k-init : goal.loop-k-init
 unfolding listing_below
@@ -11,7 +11,7 @@ loop-k-init c = grew_none _ _ refl
 
 pub put_lines-requires-clause-h_in_bounds : goal.put_lines-requires-clause-h_in_bounds
 put_lines-requires-clause-h_in_bounds c =
-    lines_fit _ _ c.requires.labelled _ c.loop-k-test.true c.loop-k.invariant (search rules)
+    lines_fit _ _ c.args.self.labelled _ c.loop-k-test.true c.loop-k.invariant (search rules)
 
 pub loop-k-preserved : goal.loop-k-preserved
-loop-k-preserved c = lines_next _ _ c.requires.labelled _ c.loop-k-test.true c.loop-k.invariant c.put_lines.ensures
+loop-k-preserved c = lines_next _ _ c.args.self.labelled _ c.loop-k-test.true c.loop-k.invariant c.put_lines.ensures

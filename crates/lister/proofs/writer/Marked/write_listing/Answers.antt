@@ -2,7 +2,7 @@
 use Rattle.std.specs.Prelude.{not}
 use Rattle.std.proofs.Common.{ap}
 use Rattle.lister.proofs.Outcomes.{refused, no_room, done}
-use Rattle.lister.proofs.lister.write_listing.Goals as goal
+use Rattle.lister.proofs.writer.Marked.write_listing.Goals as goal
 
 pub returns-then-not-has_room : goal.returns-then-not-has_room
 returns-then-not-has_room c =
