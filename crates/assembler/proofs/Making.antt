@@ -44,7 +44,7 @@ stuck f above (x ∷ xs) = stuck f (above ++ (x ∷ [])) xs
 
 -- where there was none above, this line is asked first
 abbrev flaw_at : Result ⊤ Check → ℕ → Std.Option TextRefusal
-flaw_at failed line = first_flaw None failed line
+flaw_at outcome line = first_flaw None outcome line
 
 first_is : (above : List Item) (x : Item) (xs : List Item)
     → flaw_after None above (x ∷ xs) ≡ flaw_after (flaw_at (line_no above x) (1 + length above)) (above ++ (x ∷ [])) xs

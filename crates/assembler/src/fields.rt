@@ -19,7 +19,9 @@ pub(crate) fn narrow(v: u64) -> u8
     v.min(255) as u8
 }
 
-// An instruction's halfword, and 0 for one that has none: no line says such a one.
+// An instruction's halfword. The encoder refuses none that a line says, and for one
+// that it would the definition has 0. It's no refusal, but a Result as of its callers,
+// whose arms so answer alike.
 fn encoded(i: Instruction) -> Result<u16, Check>
     ensures { result ≡ field_meaning (some i) }
 {

@@ -9,10 +9,10 @@ ghost use Rattle.assembler.specs.Passes.{Known, items_of, item_in};
 ghost use Rattle.assembler.specs.Reading.{label_no, instruction_no, line_no, first_flaw, note_of, Named};
 ghost use Rattle.assembler.specs.Reading.{read_as, Entered, entries_after, notes_after};
 
-use super::columns::put;
 use super::definitions::{next_number, scan};
 use super::fields::{field_of, narrow};
 use super::refusal::TextRefusal;
+use super::room::put;
 use labels::{Entry, Probed, define};
 use refusals::Check;
 use syntax::{Item, Line, parse};
@@ -61,12 +61,7 @@ fn first_flaw(
 
 // Enters a label's definition, which fails check 22, if something above it defines
 // the name.
-fn enter_label(
-    above: &[u8],
-    table: &mut [Entry],
-    name: u64,
-    i: u64,
-) -> Result<(), Check>
+fn enter_label(above: &[u8], table: &mut [Entry], name: u64, i: u64) -> Result<(), Check>
     requires known { Known above.now table.old }
     requires named { name ≡ 0 → ⊥ }
     ensures { (result ≡ label_no (aim_of (items_of above.now) name))
@@ -141,6 +136,7 @@ pub(crate) fn read_all(
     let mut k: u64 = 1;
     let mut i: u64 = 0;
     let mut flaw = None;
+    // No count: a line says where the next one starts.
     while at < text.len() {
         let Some(Line { item, next }) = parse(text, at) else {
             return Err(TextRefusal {

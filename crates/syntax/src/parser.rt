@@ -3,6 +3,7 @@
 ghost use Rattle.std.specs.Prelude.{◌≡◌, ◌+◌, ◌≤◌, length, get_or, drop};
 ghost use Rattle.text.specs.Text.{quoted, lines_of};
 ghost use Rattle.syntax.specs.Parser.{parsed_at, fit_at, ended, line_fit, first_fit, instructions, Four, Named};
+ghost use Rattle.syntax.specs.Parser.{branch_letter};
 
 use super::operands::{end_line, operands, two_at};
 use super::slots::{condition_at, name_at, number_at};
@@ -17,8 +18,8 @@ pub struct Values {
     pub c: u64,
 }
 
-// What a line says: its row, by its place in the definition's list of patterns, and
-// the values of its slots.
+// What a line says: its row and the values of its slots. A row is a number, as it is a
+// place in the definition's table of patterns, of which the theorems on texts speak.
 #[derive(Clone, Copy)]
 pub struct Item {
     pub row: usize,
@@ -98,7 +99,7 @@ fn row_named(name: u32) -> Option<usize>
 // An instruction that is no branch: its name, and what stands behind it. The names
 // of rows 14 and 15, STRB and LDRB, have their space still before them.
 fn instruction(text: &[u8], at: usize) -> Option<Line>
-    requires { (at ≤ length text.now) × (get_or text.now at 0 ≡ 66 → ⊥) }
+    requires { (at ≤ length text.now) × (get_or text.now at 0 ≡ branch_letter → ⊥) }
     ensures { result ≡ first_fit 1 instructions at (drop at text.now) }
 {
     let name = text[at..].first_chunk::<4>()?;
