@@ -19,9 +19,9 @@ pub(crate) fn narrow(v: u64) -> u8
     v.min(255) as u8
 }
 
-// An instruction's halfword. The encoder refuses none that a line says, and for one
-// that it would the definition has 0. It's no refusal, but a Result as of its callers,
-// whose arms so answer alike.
+// An instruction's halfword. No line says an instruction that the encoder refuses, and
+// the definition gives such a one 0. So this is never an Err: it answers a Result since
+// the functions below do, whose arms answer what it does.
 fn encoded(i: Instruction) -> Result<u16, Check>
     ensures { result ≡ field_meaning (some i) }
 {

@@ -74,6 +74,8 @@ fn note(text: &[u8], at: usize) -> Option<Line>
 // The first row whose lines begin with four characters, of those that are no
 // branches. The names are MOV, CMP, AND, EOR, ASR, TST, NEG, ADD, STR and LDR with
 // the space behind them, and STRB, LDRB and HALT.
+// As numbers, since arms like `b"MOV "`, no slower, make 45 goals of these 14, a tree
+// over the bytes, and what the 32 of its `_` know has no names for a proof to cite.
 #[tactic(auto, using(crate::proofs::Heads::unnamed))]
 fn row_named(name: u32) -> Option<usize>
     ensures { Named name result }
