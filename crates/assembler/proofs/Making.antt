@@ -18,7 +18,7 @@ use Rattle.assembler.specs.Assemble.{definition_of, Said, Nothing, Instructs, Fa
 use Rattle.assembler.specs.Assemble.{branch_said, said_at, Checked, Code, Fails, saying, next_number, check_from}
 use Rattle.assembler.specs.Labels.{number_of, aim_of}
 use Rattle.std.specs.Prelude as Std
-use Rattle.std.specs.Prelude.{Result, Ok, Err, Some, None}
+use Rattle.std.specs.Prelude.{Result, Ok, Err, Some, None, ⊤}
 use Rattle.refusals.specs.declared.check.Check.{Check}
 use Rattle.refusals.specs.declared.check.Check.TheVariants as check
 use Rattle.isa.specs.Encode.{encode_of}
@@ -43,8 +43,8 @@ stuck f above [] = refl
 stuck f above (x ∷ xs) = stuck f (above ++ (x ∷ [])) xs
 
 -- where there was none above, this line is asked first
-abbrev flaw_at : Std.Option Check → ℕ → Std.Option TextRefusal
-flaw_at failed line = first_flaw None failed line
+abbrev flaw_at : Result ⊤ Check → ℕ → Std.Option TextRefusal
+flaw_at outcome line = first_flaw None outcome line
 
 first_is : (above : List Item) (x : Item) (xs : List Item)
     → flaw_after None above (x ∷ xs) ≡ flaw_after (flaw_at (line_no above x) (1 + length above)) (above ++ (x ∷ [])) xs
@@ -58,10 +58,10 @@ not_above above [] k h = refl
 not_above above (x ∷ xs) k h =
     go (line_no above x) (not_above (above ++ (x ∷ [])) xs k (omega (arith, length-append above (x ∷ []))))
   where
-    go : (o : Std.Option Check) → above_as (flaw_after None (above ++ (x ∷ [])) xs) k ≡ Ok tt
+    go : (o : Result ⊤ Check) → above_as (flaw_after None (above ++ (x ∷ [])) xs) k ≡ Ok tt
         → above_as (flaw_after (flaw_at o (1 + length above)) (above ++ (x ∷ [])) xs) k ≡ Ok tt
-    go None later = later
-    go (Some c) later =
+    go (Ok t) later = later
+    go (Err c) later =
         rw (stuck (refusal_at c (1 + length above)) (above ++ (x ∷ [])) xs, le-ltb (1 + length above) k h) refl
 
 -- a flaw further up than all that is left ends it
@@ -226,20 +226,20 @@ module _ (items : List Item) (notes : List Note) where
     Later = Spoken further_up xs None
 
     -- the rest, where this line has no flaw
-    on : (n : ℕ) → instructions_in further_up ≡ n → line_no above x ≡ None → Later
+    on : (n : ℕ) → instructions_in further_up ≡ n → line_no above x ≡ Ok tt → Later
         → made_of (check_from items (suc k) (next_number x i) xs)
         ≡ make_from items (flaw_after None above (x ∷ xs)) notes (instructions_in xs) n
     on n e z later =
         ap made_of (behind above x xs) ∙ later
         ∙ ap₂ (λ (g : Std.Option TextRefusal) (j : ℕ). make_from items g notes (instructions_in xs) j)
-        (sym (first_is above x xs ∙ ap (λ (o : Std.Option Check). flaw_after (flaw_at o k) further_up xs) z)) e
+        (sym (first_is above x xs ∙ ap (λ (o : Result ⊤ Check). flaw_after (flaw_at o k) further_up xs) z)) e
 
     -- and where it has one
-    ends : (n : ℕ) (c : Check) → instructions_in further_up ≡ n → line_no above x ≡ Some c
+    ends : (n : ℕ) (c : Check) → instructions_in further_up ≡ n → line_no above x ≡ Err c
         → make_from items (flaw_after None above (x ∷ xs)) notes (instructions_in xs) n ≡ Breaks c k
     ends n c e q =
         let flaw : flaw_after None above (x ∷ xs) ≡ Some (refusal_at c k) =
-        first_is above x xs ∙ ap (λ (o : Std.Option Check). flaw_after (flaw_at o k) further_up xs) q
+        first_is above x xs ∙ ap (λ (o : Result ⊤ Check). flaw_after (flaw_at o k) further_up xs) q
         ∙ stuck (refusal_at c k) further_up xs in
         ap₂ (λ (g : Std.Option TextRefusal) (j : ℕ). make_from items g notes (instructions_in xs) j) flaw (sym e)
         ∙ stopped items (refusal_at c k) notes (instructions_in xs) (instructions_in further_up)
@@ -280,7 +280,7 @@ module _ (items : List Item) (notes : List Note) where
 
       -- an instruction that says the same by its notes, and has no flaw
       spoken_on : (s : Said) → (s ≡ Nothing → ⊥) → noted_meaning items i (says_of x i) ≡ said_as s
-          → line_no above x ≡ None → Later
+          → line_no above x ≡ Ok tt → Later
           → made_of (saying k s (check_from items (suc k) (next_number x i) xs))
           ≡ make_from items (flaw_after None above (x ∷ xs)) notes (suc (instructions_in xs)) i
       spoken_on s n e z later =

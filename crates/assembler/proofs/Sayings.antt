@@ -6,9 +6,9 @@ use Prim.Native.Nat.{ℕ, min}
 use lib.ListN.{set}
 use borrow.Author.Tests.{eq-eqb, ne_eqb}
 use Rattle.std.specs.Prelude as Std
-use Rattle.std.specs.Prelude.{Result, Ok, Err, Some, None}
+use Rattle.std.specs.Prelude.{Result, Ok, Err, Some, None, ⊤}
 use Rattle.std.specs.Option.{option_or}
-use Rattle.std.specs.Result.{result_err, result_unwrap_or}
+use Rattle.std.specs.Result.{result_unwrap_or}
 use Rattle.refusals.specs.declared.check.Check.{Check}
 use Rattle.refusals.specs.declared.check.Check.TheVariants as check
 use Rattle.labels.specs.Table.{probe_of}
@@ -33,28 +33,28 @@ use Rattle.assembler.specs.declared.refusal.TextRefusal.{TextRefusal}
 use Rattle.assembler.proofs.Table.{here_aim, free_aim}
 
 -- the first flaw
-pub flaw_kept : (f : Std.Option TextRefusal) (line : ℕ) → f ≡ first_flaw f None line
+pub flaw_kept : (f : Std.Option TextRefusal) (line : ℕ) → f ≡ first_flaw f (Ok tt) line
 flaw_kept None line = refl
 flaw_kept (Some r) line = refl
 
 pub flaw_or : (f : Std.Option TextRefusal) (c : Check) (line : ℕ)
-    → option_or f (Some (refusal_at c line)) ≡ first_flaw f (Some c) line
+    → option_or f (Some (refusal_at c line)) ≡ first_flaw f (Err c) line
 flaw_or None c line = refl
 flaw_or (Some r) c line = refl
 
 -- a label
 module _ {text : Text} {table : List Entry} {name : ℕ} {p : Probed} (known : Known text table) (n : name ≡ 0 → ⊥)
     (asked : p ≡ probe_of table name) where
-  pub label_again : {at : ℕ} → p ≡ Here at → Some check.Label ≡ label_no (aim_of (items_of text) name)
+  pub label_again : {at : ℕ} → p ≡ Here at → Err check.Label ≡ label_no (aim_of (items_of text) name)
   label_again e = sym (ap label_no (here_aim known.holds n (sym asked ∙ e)))
 
-  pub label_new : {at : ℕ} → p ≡ Free at → None ≡ label_no (aim_of (items_of text) name)
+  pub label_new : {at : ℕ} → p ≡ Free at → Ok tt ≡ label_no (aim_of (items_of text) name)
   label_new e = sym (ap label_no (free_aim known.holds n (sym asked ∙ e)))
 
 -- an instruction's notes
 module _ (x : Item) (i : ℕ) where
   module _ (b : x.row ≡ 17) where
-    pub branch_no : None ≡ instruction_no (item_in x) i
+    pub branch_no : Ok tt ≡ instruction_no (item_in x) i
     branch_no = rw (eq-eqb x.row 17 b) refl
 
     pub branch_note : (notes : List Note) (k : ℕ) {after : List Note} {v : ℕ} → v ≡ min x.values.a 255
@@ -72,14 +72,24 @@ module _ (x : Item) (i : ℕ) where
     meant none = refl
     meant (some j) = refl
 
-    meant_no : (o : Option Instruction) → result_err (field_meaning o) ≡ field_no o
+    -- whether it has a halfword
+    abbrev passes : Result ℕ Check → Result ⊤ Check
+    passes (Ok h) = Ok tt
+    passes (Err c) = Err c
+
+    meant_no : (o : Option Instruction) → passes (field_meaning o) ≡ field_no o
     unfolding field_meaning
     meant_no none = refl
     meant_no (some j) = refl
 
-    pub other_no : {r : Std.Option Check} → r ≡ result_err said → r ≡ instruction_no (item_in x) i
-    other_no p =
-        p ∙ ap result_err asked ∙ meant_no (instruction_of (item_in x) i 0) ∙ rw (ne_eqb x.row 17 b) refl
+    said_no : passes said ≡ instruction_no (item_in x) i
+    said_no = ap passes asked ∙ meant_no (instruction_of (item_in x) i 0) ∙ rw (ne_eqb x.row 17 b) refl
+
+    pub other_no : {c : Check} → said ≡ Err c → Err c ≡ instruction_no (item_in x) i
+    other_no p = sym (ap passes p) ∙ said_no
+
+    pub other_yes : {h : ℕ} → said ≡ Ok h → Ok tt ≡ instruction_no (item_in x) i
+    other_yes p = sym (ap passes p) ∙ said_no
 
     pub other_note : (notes : List Note) (k : ℕ) {after : List Note} {h : ℕ} → h ≡ result_unwrap_or said 0
         → after ≡ set notes i (record { says = Halfword h; line = k })
@@ -91,7 +101,7 @@ module _ (x : Item) (i : ℕ) where
         (e ∙ ap (λ (r : Result ℕ Check). result_unwrap_or r 0) asked ∙ meant (instruction_of (item_in x) i 0)))
 
 -- a line's check
-module _ (above : List Syntax.Item) (x : Item) {r : Std.Option Check} where
+module _ (above : List Syntax.Item) (x : Item) {r : Result ⊤ Check} where
   pub line_label : x.row ≡ 0 → r ≡ label_no (aim_of above x.values.a) → r ≡ line_no above (item_in x)
   unfolding line_no
   line_label e p = rw (eq-eqb x.row 0 e) p

@@ -10,7 +10,7 @@ use lib.ListN.{length, take, drop, set, length-append, length-set}
 use lib.Seq.{drop-length}
 use borrow.Author.Tests.{eqb-true}
 use Rattle.std.specs.Prelude as Std
-use Rattle.std.specs.Prelude.{Result, Ok, Err, None}
+use Rattle.std.specs.Prelude.{Result, Ok, Err, None, ⊤}
 use Rattle.refusals.specs.declared.check.Check.{Check}
 use Rattle.refusals.specs.declared.check.Check.TheVariants as check
 use Rattle.labels.specs.Table.{table_after}
@@ -200,14 +200,14 @@ line_noted notes xs x i k noted e d nm room = go (is_label x) refl
 module _ {text : Text} {table : List Entry} {notes : List Note} {at k i : ℕ} {flaw : Std.Option TextRefusal}
     (w : Walked text table notes at k i flaw) where
   -- what the code makes of a line
-  abbrev pub Enters : Code.Item → Std.Option Check → List Entry → List Note → Type 0
-  Enters y failed table' notes' =
-      (failed ≡ line_no (items_of (take at text)) (item_in y))
+  abbrev pub Enters : Code.Item → Result ⊤ Check → List Entry → List Note → Type 0
+  Enters y outcome table' notes' =
+      (outcome ≡ line_no (items_of (take at text)) (item_in y))
       × (table' ≡ entries_after y.row table y.values.a i)
       × (notes' ≡ notes_after y.row notes i (note_of (item_in y) i k))
 
-  pub sized_on : (y : Code.Item) {failed : Std.Option Check} {table' table₀ : List Entry} {notes' notes₀ : List Note}
-      → Enters y failed table' notes' → Sized table notes table₀ notes₀ → Sized table' notes' table₀ notes₀
+  pub sized_on : (y : Code.Item) {outcome : Result ⊤ Check} {table' table₀ : List Entry} {notes' notes₀ : List Note}
+      → Enters y outcome table' notes' → Sized table notes table₀ notes₀ → Sized table' notes' table₀ notes₀
   sized_on y (asked, table_is, notes_are) s =
       record {
         table_long = ap length table_is ∙ entries_length y.row table y.values.a i ∙ s.table_long;
@@ -223,10 +223,10 @@ module _ {text : Text} {table : List Entry} {notes : List Note} {at k i : ℕ} {
       go false = omega arith
 
   pub walk_on : (y : Code.Item) {next : ℕ} → parsed_at at (lines_of (drop at text)) ≡ line_of y next
-      → {failed : Std.Option Check} {i' : ℕ} {flaw' : Std.Option TextRefusal} {table' : List Entry} {notes' : List Note}
-      → Enters y failed table' notes' → flaw' ≡ first_flaw flaw failed k → i' ≡ count_after y.row i
+      → {outcome : Result ⊤ Check} {i' : ℕ} {flaw' : Std.Option TextRefusal} {table' : List Entry} {notes' : List Note}
+      → Enters y outcome table' notes' → flaw' ≡ first_flaw flaw outcome k → i' ≡ count_after y.row i
       → Walked text table' notes' next (k + 1) i' flaw'
-  walk_on y {next} q {failed} {i'} {flaw'} {table'} {notes'} (asked, table_is, notes_are) first count =
+  walk_on y {next} q {outcome} {i'} {flaw'} {table'} {notes'} (asked, table_is, notes_are) first count =
       rw (
         table_is,
         notes_are,

@@ -1,7 +1,7 @@
 -- What the pass over a text answers, and what it leaves: the table of labels, and what it notes of each instruction.
 -- Only the contracts of private functions speak of it.
 use Rattle.std.specs.Prelude as Std
-use Rattle.std.specs.Prelude.{Result, Ok, Err, Some, None, Bool, true, false, cond, List, [], ◌∷◌, ◌++◌, ◌≡◌, ℕ, ◌+◌}
+use Rattle.std.specs.Prelude.{Result, Ok, Err, ⊤, Some, None, Bool, true, false, cond, List, [], ◌∷◌, ◌++◌, ◌≡◌, ℕ, ◌+◌}
 use Rattle.std.specs.Prelude.{◌≤◌, min, eqb, length, get_or, set}
 use Rattle.std.proofs.Math.Option.{Option, none, some}
 use Rattle.refusals.specs.declared.check.Check.{Check}
@@ -22,27 +22,27 @@ use Rattle.assembler.specs.declared.reader.Says.{Says}
 use Rattle.assembler.specs.declared.reader.Says.TheVariants.{Halfword, Branch}
 use Rattle.assembler.specs.declared.refusal.TextRefusal.{TextRefusal}
 
--- a line's check that fails whatever branches do: 22 of a label that is defined in the items above, 23 of an
+-- what a line fails whatever branches do: 22 of a label that is defined in the items above, 23 of an
 -- instruction that is no branch
-abbrev pub label_no : Std.Option ℕ → Std.Option Check
-label_no None = None
-label_no (Some number) = Some check.Label
+abbrev pub label_no : Std.Option ℕ → Result ⊤ Check
+label_no None = Ok tt
+label_no (Some number) = Err check.Label
 
-abbrev pub field_no : Option Instruction → Std.Option Check
-field_no none = Some check.Value
-field_no (some i) = None
+abbrev pub field_no : Option Instruction → Result ⊤ Check
+field_no none = Err check.Value
+field_no (some i) = Ok tt
 
-abbrev pub instruction_no : Item → ℕ → Std.Option Check
-instruction_no x i = cond (eqb x.row branch_row) None (field_no (instruction_of x i 0))
+abbrev pub instruction_no : Item → ℕ → Result ⊤ Check
+instruction_no x i = cond (eqb x.row branch_row) (Ok tt) (field_no (instruction_of x i 0))
 
-unfoldable pub line_no : List Item → Item → Std.Option Check
+unfoldable pub line_no : List Item → Item → Result ⊤ Check
 line_no above x = cond (is_label x) (label_no (aim_of above (value_at x 0))) (instruction_no x (instructions_in above))
 
 -- the first of those, with its line
-abbrev pub first_flaw : Std.Option TextRefusal → Std.Option Check → ℕ → Std.Option TextRefusal
-first_flaw (Some f) failed line = Some f
-first_flaw None None line = None
-first_flaw None (Some c) line = Some (refusal_at c line)
+abbrev pub first_flaw : Std.Option TextRefusal → Result ⊤ Check → ℕ → Std.Option TextRefusal
+first_flaw (Some f) outcome line = Some f
+first_flaw None (Ok t) line = None
+first_flaw None (Err c) line = Some (refusal_at c line)
 
 unfoldable pub flaw_after : Std.Option TextRefusal → List Item → List Item → Std.Option TextRefusal
 flaw_after f above [] = f

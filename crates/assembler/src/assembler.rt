@@ -126,6 +126,7 @@ fn assemble_long(text: &[u8], out: &mut [u16]) -> Result<usize, TextRefusal>
         ≡ output_after (assemble_of text.now (length out.old)) out.old) }
 {
     let written = assemble_in::<MOST_PLACES, MOST_CODE>(text, out)?;
+    // Never None: there are notes for all instructions that check 15 lets pass.
     Ok(written.unwrap_or(0))
 }
 

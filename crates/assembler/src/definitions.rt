@@ -32,6 +32,7 @@ pub(crate) fn scan(text: &[u8], name: u64) -> Option<u64>
 {
     let mut at = 0;
     let mut i: u64 = 0;
+    // No count: a line says where the next one starts.
     while at < text.len() {
         let Line { item, next } = parse(text, at)?;
         if defines(item, name) {

@@ -19,7 +19,9 @@ pub(crate) fn narrow(v: u64) -> u8
     v.min(255) as u8
 }
 
-// An instruction's halfword, and 0 for one that has none: no line says such a one.
+// An instruction's halfword. No line says an instruction that the encoder refuses, and
+// the definition gives such a one 0. So this is never an Err: it answers a Result since
+// the functions below do, whose arms answer what it does.
 fn encoded(i: Instruction) -> Result<u16, Check>
     ensures { result ≡ field_meaning (some i) }
 {

@@ -2,11 +2,11 @@
 #![tactic(auto)]
 
 mod assembler;
-mod columns;
 mod definitions;
 mod fields;
 mod reader;
 mod refusal;
+mod room;
 mod translator;
 
 pub use assembler::assemble;

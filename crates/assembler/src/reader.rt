@@ -9,10 +9,10 @@ ghost use Rattle.assembler.specs.Passes.{Known, items_of, item_in};
 ghost use Rattle.assembler.specs.Reading.{label_no, instruction_no, line_no, first_flaw, note_of, Named};
 ghost use Rattle.assembler.specs.Reading.{read_as, Entered, entries_after, notes_after};
 
-use super::columns::put;
 use super::definitions::{next_number, scan};
 use super::fields::{field_of, narrow};
 use super::refusal::TextRefusal;
+use super::room::put;
 use labels::{Entry, Probed, define};
 use refusals::Check;
 use syntax::{Item, Line, parse};
@@ -45,37 +45,41 @@ pub struct Counted {
     pub flaw: Option<TextRefusal>,
 }
 
-// The first flaw, where line `line` fails a check or none.
-fn first_flaw(flaw: Option<TextRefusal>, failed: Option<Check>, line: u64) -> Option<TextRefusal>
-    ensures { result ≡ first_flaw flaw failed line }
+// The first flaw, where this is the outcome of line `line`.
+fn first_flaw(
+    flaw: Option<TextRefusal>,
+    outcome: Result<(), Check>,
+    line: u64,
+) -> Option<TextRefusal>
+    ensures { result ≡ first_flaw flaw outcome line }
 {
-    let Some(check) = failed else {
+    let Err(check) = outcome else {
         return flaw;
     };
     flaw.or(Some(TextRefusal { check, line }))
 }
 
-// Enters a label's definition, and answers check 22, if something above it defines
+// Enters a label's definition, which fails check 22, if something above it defines
 // the name.
-fn enter_label(above: &[u8], table: &mut [Entry], name: u64, i: u64) -> Option<Check>
+fn enter_label(above: &[u8], table: &mut [Entry], name: u64, i: u64) -> Result<(), Check>
     requires known { Known above.now table.old }
     requires named { name ≡ 0 → ⊥ }
     ensures { (result ≡ label_no (aim_of (items_of above.now) name))
         × (table.new ≡ table_after table.old name i) }
 {
     match define(table, name, i) {
-        Probed::Here(_) => Some(Check::Label),
-        Probed::Free(_) => None,
-        Probed::Crowded => {
-            scan(above, name)?;
-            Some(Check::Label)
-        }
+        Probed::Here(_) => Err(Check::Label),
+        Probed::Free(_) => Ok(()),
+        Probed::Crowded => match scan(above, name) {
+            Some(_) => Err(Check::Label),
+            None => Ok(()),
+        },
     }
 }
 
-// Notes instruction `i` on line `k`, and answers check 23, if it fails that. A
-// branch is not asked until all labels are known.
-fn enter_instruction(notes: &mut [Note], item: Item, k: u64, i: u64) -> Option<Check>
+// Notes instruction `i` on line `k`, whose values may fail check 23. A branch is not
+// asked until all labels are known.
+fn enter_instruction(notes: &mut [Note], item: Item, k: u64, i: u64) -> Result<(), Check>
     ensures { (result ≡ instruction_no (item_in item) i)
         × (notes.new ≡ set notes.old i (note_of (item_in item) i k)) }
 {
@@ -85,16 +89,17 @@ fn enter_instruction(notes: &mut [Note], item: Item, k: u64, i: u64) -> Option<C
             name: item.values.b,
         };
         put(notes, i, Note { says, line: k });
-        return None;
+        return Ok(());
     }
     let halfword = field_of(item, i, 0);
     let says = Says::Halfword(halfword.unwrap_or(0));
     put(notes, i, Note { says, line: k });
-    halfword.err()
+    halfword?;
+    Ok(())
 }
 
-// Enters line `k`, above which there are `i` instructions, and answers the check
-// that it fails whatever branches do.
+// Enters line `k`, above which there are `i` instructions, and answers what it
+// fails whatever branches do.
 fn enter(
     above: &[u8],
     table: &mut [Entry],
@@ -102,7 +107,7 @@ fn enter(
     item: Item,
     k: u64,
     i: u64,
-) -> Option<Check>
+) -> Result<(), Check>
     requires known { Known above.now table.old }
     requires named { Named item }
     requires i_value { i ≡ instructions_in (items_of above.now) }
@@ -131,6 +136,7 @@ pub(crate) fn read_all(
     let mut k: u64 = 1;
     let mut i: u64 = 0;
     let mut flaw = None;
+    // No count: a line says where the next one starts.
     while at < text.len() {
         let Some(Line { item, next }) = parse(text, at) else {
             return Err(TextRefusal {
@@ -138,8 +144,8 @@ pub(crate) fn read_all(
                 line: k,
             });
         };
-        let failed = enter(&text[..at], table, notes, item, k, i);
-        flaw = first_flaw(flaw, failed, k);
+        let outcome = enter(&text[..at], table, notes, item, k, i);
+        flaw = first_flaw(flaw, outcome, k);
         i = next_number(item.row, i);
         at = next;
         k += 1;

@@ -5,11 +5,11 @@ ghost use Rattle.assembler.specs.Assemble.{check_from};
 ghost use Rattle.assembler.specs.Passes.{Known, Aimed, Ready, items_of, noted_meaning, above_as};
 ghost use Rattle.assembler.specs.Passes.{made_of, translated_as, Written};
 
-use super::columns::put;
 use super::definitions::definition_of;
 use super::fields::branching;
 use super::reader::{Counted, Note, Says};
 use super::refusal::TextRefusal;
+use super::room::put;
 use labels::Entry;
 use refusals::Check;
 

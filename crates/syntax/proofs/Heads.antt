@@ -163,7 +163,7 @@ module _ (t : Text) (i a b c d : ℕ) (h : plain a ≡ true) (j : plain b ≡ tr
         o = omega arith
 
         one : get_or t i 0 ≡ a
-          → fit_at (a ∷ b ∷ c ∷ d ∷ p) i (drop i t) ≡ fit_at (b ∷ c ∷ d ∷ p) (i + 1) (drop (i + 1) t)
+            → fit_at (a ∷ b ∷ c ∷ d ∷ p) i (drop i t) ≡ fit_at (b ∷ c ∷ d ∷ p) (i + 1) (drop (i + 1) t)
         one e = byte_goes a (b ∷ c ∷ d ∷ p) t i (plain_literal a h) (plain_some a h) e
 
         two : get_or t (i + 1) 0 ≡ b
@@ -179,7 +179,7 @@ module _ (t : Text) (i a b c d : ℕ) (h : plain a ≡ true) (j : plain b ≡ tr
             ∙ ap (λ (y : ℕ). fit_at (d ∷ p) y (drop y t)) o
 
         by : (w x y z : Bool) → eqb (get_or t i 0) a ≡ w → eqb (get_or t (i + 1) 0) b ≡ x
-          → eqb (get_or t (i + 2) 0) c ≡ y
+            → eqb (get_or t (i + 2) 0) c ≡ y
             → eqb (get_or t (i + 3) 0) d ≡ z → fit_at (a ∷ b ∷ c ∷ d ∷ p) i (drop i t) ≡ misfit
         by false x y z e q r s = byte_stops a (b ∷ c ∷ d ∷ p) t i (plain_literal a h) (eqb-false (get_or t i 0) a e)
         by true false y z e q r s =

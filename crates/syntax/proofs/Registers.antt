@@ -146,7 +146,7 @@ digit_value d e = go (eqb d 48)
     go true = simp e (ap some (omega (arith, digit_high d e)))
     go false = simp e (ap some (omega (arith, digit_high d e)))
 
-ten_value : (e : ℕ) → is_digit e ≡ true → number_value (49 ∷ e ∷ []) ≡ some (e - 38)
+ten_value : (e : ℕ) → is_digit e ≡ true → number_value (49 ∷ e ∷ []) ≡ some (10 + (e - 48))
 unfolding number_value is_number number_of digits_after
 ten_value e h = simp h (ap some (omega (arith, digit_low e h, digit_high e h)))
 
@@ -206,10 +206,10 @@ module _ (t : Text) (at : ℕ) (h : at ≤ length t) (c : get_or t at 0 ≡ 82) 
       (first_byte t (at + 2) x b.0 b.1) f))
 
   pub register_teen : (e : ℕ) → e ≡ get_or t (at + 2) 0 → get_or t (at + 1) 0 ≡ 49 → 48 ≤ e → e ≤ 53
-      → Register t at (e - 38) (at + 3)
+      → Register t at (10 + (e - 48)) (at + 3)
   register_teen e r q l m =
       let d : is_digit e ≡ true = simp (le-leb 48 e l, le-leb e 57 (omega arith)) in
-      register_read t (49 ∷ e ∷ []) (drop (at + 3) t) at (e - 38) (at + 3) h
+      register_read t (49 ∷ e ∷ []) (drop (at + 3) t) at (10 + (e - 48)) (at + 3) h
       (front_two t at c (omega (arith, q)) (omega (arith, r))
       ∙ ap₂ (λ (x y : ℕ). 82 ∷ ((x ∷ y ∷ []) ++ drop (at + 3) t)) q (sym r)) (omega arith)
       (simp d) (ten_value e d) (omega arith) (λ x y b. more_than_two e x y)

@@ -136,5 +136,9 @@ abbrev pub RowAt : Text → ℕ → Std.Option ℕ → Type 0
 RowAt t i None = None ≡ first_fit 1 instructions i (drop i t)
 RowAt t i (Some row) = Row t i row
 
+-- what a branch begins with
+abbrev pub branch_letter : ℕ
+branch_letter = code "B"
+
 abbrev pub Named : ℕ → Std.Option ℕ → Type 0
-Named name row = (t : Text) (i : ℕ) → Four t i name → (get_or t i 0 ≡ code "B" → ⊥) → RowAt t i row
+Named name row = (t : Text) (i : ℕ) → Four t i name → (get_or t i 0 ≡ branch_letter → ⊥) → RowAt t i row

@@ -8,6 +8,16 @@ use Rattle.syntax.specs.Syntax.{Pattern, too_large}
 use Rattle.syntax.specs.Parser.{misfit, fit_before, fit_at}
 use Rattle.syntax.specs.declared.slots.Spot.{Spot}
 
+-- the slots that have one kind of word, by their letters
+abbrev pub number_slot : ℕ
+number_slot = code "n"
+
+abbrev pub name_slot : ℕ
+name_slot = code "l"
+
+abbrev pub condition_slot : ℕ
+condition_slot = code "c"
+
 -- no word of a slot stands at a place
 abbrev pub Missing : ℕ → Text → ℕ → Type 0
 Missing k t at = (p : Pattern) → fit_at (k ∷ p) at (drop at t) ≡ misfit

@@ -3,6 +3,7 @@
 ghost use Rattle.std.specs.Prelude.{◌≡◌, ◌+◌, ◌≤◌, length, get_or, drop};
 ghost use Rattle.text.specs.Text.{quoted, lines_of};
 ghost use Rattle.syntax.specs.Parser.{parsed_at, fit_at, ended, line_fit, first_fit, instructions, Four, Named};
+ghost use Rattle.syntax.specs.Parser.{branch_letter};
 
 use super::operands::{end_line, operands, two_at};
 use super::slots::{condition_at, name_at, number_at};
@@ -17,8 +18,8 @@ pub struct Values {
     pub c: u64,
 }
 
-// What a line says: its row, by its place in the definition's list of patterns, and
-// the values of its slots.
+// What a line says: its row and the values of its slots. A row is a number, as it is a
+// place in the definition's table of patterns, of which the theorems on texts speak.
 #[derive(Clone, Copy)]
 pub struct Item {
     pub row: usize,
@@ -73,6 +74,8 @@ fn note(text: &[u8], at: usize) -> Option<Line>
 // The first row whose lines begin with four characters, of those that are no
 // branches. The names are MOV, CMP, AND, EOR, ASR, TST, NEG, ADD, STR and LDR with
 // the space behind them, and STRB, LDRB and HALT.
+// As numbers, since arms like `b"MOV "`, no slower, make 45 goals of these 14, a tree
+// over the bytes, and what the 32 of its `_` know has no names for a proof to cite.
 #[tactic(auto, using(crate::proofs::Heads::unnamed))]
 fn row_named(name: u32) -> Option<usize>
     ensures { Named name result }
@@ -98,7 +101,7 @@ fn row_named(name: u32) -> Option<usize>
 // An instruction that is no branch: its name, and what stands behind it. The names
 // of rows 14 and 15, STRB and LDRB, have their space still before them.
 fn instruction(text: &[u8], at: usize) -> Option<Line>
-    requires { (at ≤ length text.now) × (get_or text.now at 0 ≡ 66 → ⊥) }
+    requires { (at ≤ length text.now) × (get_or text.now at 0 ≡ branch_letter → ⊥) }
     ensures { result ≡ first_fit 1 instructions at (drop at text.now) }
 {
     let name = text[at..].first_chunk::<4>()?;

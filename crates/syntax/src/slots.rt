@@ -6,6 +6,7 @@ ghost use Rattle.text.specs.Text.{is_digit};
 ghost use Rattle.syntax.specs.Syntax.{too_large};
 ghost use Rattle.syntax.specs.Slots.{number_as, with_digit, letters_value};
 ghost use Rattle.syntax.specs.Spots.{SpotAt, RegisterAt, Digits, begins_digit};
+ghost use Rattle.syntax.specs.Spots.{number_slot, name_slot, condition_slot};
 
 use text::{byte_at, in_name, is_digit, is_small};
 
@@ -51,7 +52,7 @@ fn digits_from(text: &[u8], at: usize, first: u64) -> Spot
 #[tactic(auto, using(crate::proofs::Digits::number_zero))]
 pub(crate) fn number_at(text: &[u8], at: usize) -> Option<Spot>
     requires { at ≤ length text.now }
-    ensures { SpotAt 110 text.now at result }
+    ensures { SpotAt number_slot text.now at result }
 {
     let first = byte_at(text, at);
     if !is_digit(first) {
@@ -92,7 +93,7 @@ pub(crate) fn register_at(text: &[u8], at: usize) -> Option<Spot>
         });
     }
     Some(Spot {
-        value: (e - 38) as u64,
+        value: 10 + (e - b'0') as u64,
         stop: at + 3,
     })
 }
@@ -101,7 +102,7 @@ pub(crate) fn register_at(text: &[u8], at: usize) -> Option<Spot>
 // value is its bytes as one number, the first the highest.
 pub(crate) fn name_at(text: &[u8], at: usize) -> Option<Spot>
     requires { at ≤ length text.now }
-    ensures { SpotAt 108 text.now at result }
+    ensures { SpotAt name_slot text.now at result }
 {
     let first = byte_at(text, at);
     if !is_small(first) {
@@ -146,7 +147,7 @@ fn condition_number(letters: u16) -> Option<u64>
 // A condition: its two letters.
 pub(crate) fn condition_at(text: &[u8], at: usize) -> Option<Spot>
     requires { at ≤ length text.now }
-    ensures { SpotAt 99 text.now at result }
+    ensures { SpotAt condition_slot text.now at result }
 {
     let letters = [byte_at(text, at), byte_at(text, at + 1)];
     let value = condition_number(u16::from_be_bytes(letters))?;

@@ -10,8 +10,8 @@ loop-at-init c = (walk_start c.requires, record { table_long = refl; notes_long 
 pub returns-in_default : goal.returns-in_default
 returns-in_default c = walk_none c.loop-at.invariant.0 c.loop-at-test.true (sym c.in_default.ensures)
 
-pub enter-failed-requires-clause-named : goal.enter-failed-requires-clause-named
-enter-failed-requires-clause-named c =
+pub enter-outcome-requires-clause-named : goal.enter-outcome-requires-clause-named
+enter-outcome-requires-clause-named c =
     let l = lined {text = c.args.text.now} {at = c.loop-at.at} (sym c.in-Some.ensures) in
     named l.written l.is_parsed_as l.item_is
 
@@ -20,7 +20,7 @@ next_number-i-requires c = omega (arith, walk_few c.loop-at.invariant.0)
 
 pub loop-at-preserved : goal.loop-at-preserved
 loop-at-preserved c =
-    let put = c.enter-failed.ensures in (
+    let put = c.enter-outcome.ensures in (
       walk_on c.loop-at.invariant.0 _ (sym c.in-Some.ensures) put c.first_flaw-flaw.ensures c.next_number-i.ensures,
       sized_on c.loop-at.invariant.0 _ put c.loop-at.invariant.1,
     )
