@@ -5,17 +5,14 @@ use mathlib.Core.Path.{◌≡◌, refl, sym, ap, ◌∙◌}
 use Prim.Native.Nat.{ℕ, ◌+◌, ◌≤◌}
 use native.Mathlib.Omega.{arith}
 use borrow.Author.Tests.{leb-true, not-true, not-false}
-use lib.Dec.{leb}
 use lib.ListN.{length, drop}
 use lib.Seq.{sets-eq}
 use Rattle.refusals.specs.declared.check.Check.TheVariants as check
 use Rattle.refusals.specs.Refusal.{refusal}
 use Rattle.refusals.specs.declared.refusal.Refusal.{Refusal}
 use Rattle.image.specs.Check.{first_no, rows_below, whole}
-use Rattle.image.specs.Format.{most_code}
 use Rattle.image.proofs.Answers.{or_else, first_append, passed_head}
 use Rattle.text.specs.Text.{Text, written}
-use Rattle.text.proofs.Words.{and_right}
 use Rattle.lister.specs.List.{check15, checks_at, check16, listing_of, Listing, Lists, Refuses, listing_as, list_of}
 use Rattle.lister.specs.List.{listed_as, output_after}
 use Rattle.lister.specs.Passes.{fitted_of}
@@ -32,11 +29,6 @@ unfolding written
 written_front t room h =
     let front : 0 + length t ≡ length t = omega arith in
     sets-eq t room 0 (omega arith) ∙ ap (λ (n : ℕ). t ++ drop n room) front
-
--- what a yes to check 15 says
-pub program_fits : (code : List ℕ) (t : Bool) → t ≡ check15 code → not t ≡ false → length code ≤ most_code
-program_fits code t is held =
-    leb-true (length code) most_code (and_right (leb 1 (length code)) _ (sym is ∙ not-false t held))
 
 -- check 15
 module _ (code : List ℕ) (size : ℕ) where

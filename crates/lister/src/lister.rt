@@ -55,9 +55,9 @@ pub fn list(code: &[u16], out: &mut [u8]) -> Result<usize, Refusal>
     }
     let mut marks = Marks::new();
     check_code(code, &mut marks)?;
-    Marked {
+    let marked = Marked {
         code,
         marks: &marks,
-    }
-    .write_listing(out)
+    };
+    marked.write_listing(out)
 }

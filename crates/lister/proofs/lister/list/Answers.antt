@@ -2,17 +2,13 @@
 use Rattle.std.specs.Prelude.{not}
 use Rattle.std.proofs.Common.{ap}
 use Rattle.std.proofs.lemmas.Result.{err_from_is_err_and}
-use Rattle.lister.proofs.Outcomes.{refused, program_fits, no_program, no_instruction, all_instructions}
+use Rattle.lister.proofs.Outcomes.{refused, no_program, no_instruction, all_instructions}
 use Rattle.lister.proofs.lister.list.Goals as goal
 
 pub returns-then-not-is_program : goal.returns-then-not-is_program
 returns-then-not-is_program c =
     refused _ _
     (no_program _ _ _ c.is_program.ensures (ap not c.if-not-is_program.true) c.new.ensures)
-
-pub check_code-requires : goal.check_code-requires
-check_code-requires c =
-    (program_fits c.args.code.now _ c.is_program.ensures (ap not c.if-not-is_program.false), c.new-marks.ensures)
 
 pub returns-in_err-check_code : goal.returns-in_err-check_code
 returns-in_err-check_code c =

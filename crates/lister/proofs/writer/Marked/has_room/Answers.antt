@@ -1,5 +1,5 @@
 -- What is enough for any code of the length is enough for this one; else the measure tells. The check finds the second
--- by itself: it stands here for another comparison in the code to be refused by what it says.
+-- by itself, but of another comparison would only say that its search gave up: this answer says where the two differ.
 use Rattle.std.specs.Prelude.{leb}
 use Rattle.std.proofs.Common.{ℕ, ap, sym, arith, ◌∙◌}
 use Rattle.std.proofs.lemmas.Bool.{le-leb}
