@@ -14,7 +14,7 @@ use Rattle.text.proofs.Scans.{rest}
 use Rattle.text.proofs.Words.{and_left, and_right}
 use Rattle.units.proofs.Cases.{clash}
 use Rattle.syntax.specs.Syntax.{condition_value, slot_value, place, conditions}
-use Rattle.syntax.specs.Slots.{number_as, letters, number_among, letters_value}
+use Rattle.syntax.specs.Slots.{number_as, number_among, letters_value}
 use Rattle.syntax.specs.Spots.{Missing, Spotted}
 use Rattle.std.specs.Prelude.{Some, None}
 use Rattle.syntax.proofs.Digits.{word_further, word_begun}
@@ -28,25 +28,6 @@ value_some (some u) v e = ap some (cc)
 none_none : (o : Option ℕ) → number_as o ≡ None → o ≡ none
 none_none none e = refl
 none_none (some u) e = clash (cc)
-
--- letters that are no condition's: `NoneOf` is what a `_` behind arms for these numbers is told
-abbrev NoneOf : Type 0 → ℕ → List Text → Type 0
-NoneOf B n [] = B
-NoneOf B n (t ∷ ts) = NoneOf (B × (n ≡ letters t → ⊥)) n ts
-
-others : (B : Type 0) (n : ℕ) (ts : List Text) → NoneOf B n ts → B
-others B n [] r = r
-others B n (t ∷ ts) r = (others (B × (n ≡ letters t → ⊥)) n ts r).0
-
-none_among : (B : Type 0) (k n : ℕ) (ts : List Text) → NoneOf B n ts → number_among k n ts ≡ none
-none_among B k n [] r = refl
-none_among B k n (t ∷ ts) r =
-    let differ = (others (B × (n ≡ letters t → ⊥)) n ts r).1 in
-    simp (ne_eqb n (letters t) differ) (none_among (B × (n ≡ letters t → ⊥)) (suc k) n ts r)
-
-pub letters_none : (B : Type 0) (n : ℕ) → NoneOf B n conditions → None ≡ number_as (letters_value n)
-unfolding letters_value
-letters_none B n r = ap number_as (sym (none_among B 0 n conditions r))
 
 -- a condition's word has two letters, so it is that of their number
 abbrev pairs : List Text → Bool

@@ -1,7 +1,7 @@
 -- What lines begin with: a small letter a label, a B a branch, and four characters the rows of a name.
-use mathlib.Core.Bool.{Bool, true, false, true≢false, false≢true, not, ◌&&◌, ◌||◌}
+use mathlib.Core.Bool.{Bool, true, false, cond, true≢false, false≢true, not, ◌&&◌, ◌||◌}
 use mathlib.Core.List.{List, [], ◌∷◌}
-use mathlib.Core.Path.{◌≡◌, refl, ap, ap₂, sym, ◌∙◌}
+use mathlib.Core.Path.{◌≡◌, refl, ap, ap₂, sym, ◌∙◌, subst}
 use Prim.Native.Nat.{ℕ, suc, ◌+◌, ◌-◌, ◌<◌, ◌≤◌}
 use native.Mathlib.Omega.{arith}
 use lib.Dec.{eqb, ltb}
@@ -9,18 +9,18 @@ use lib.ListN.{length, get_or, take, drop, length-drop}
 use lib.Seq.{get_or-drop}
 use Rattle.std.proofs.lemmas.List.{take_all}
 use Rattle.std.specs.Array.{IsFirstChunk}
-use Rattle.std.specs.Int.{from_be_bytes}
-use Rattle.std.proofs.Common.{Fits, w8, w32, get_or-take}
+use Rattle.std.proofs.Common.{Fits, w8, get_or-take}
 use borrow.Author.Tests.{eqb-true, eqb-false, ne_eqb, lt-ltb, le-ltb, not-true, ltb-true}
 use Rattle.text.specs.Text.{Text, quoted, is_small, word, is_name, feed, lines_of}
 use Rattle.text.proofs.Scans.{rest}
 use Rattle.text.proofs.Words.{and_left, and_right}
 use Rattle.syntax.specs.Syntax.{Pattern, patterns, slot_value, name_value}
 use Rattle.syntax.specs.Parser.{parsed_at, Fit, misfit, fit_at, ended, fit_or, first_fit, line_fit, line_end, behind}
-use Rattle.syntax.specs.Parser.{operands_as, behind_name, instructions, four_of, Four, Row}
+use Rattle.syntax.specs.Parser.{operands_as, behind_name, instructions, four_of, four_in, row_of, Four, Row}
 use Rattle.syntax.specs.Spots.{Missing, Spotted}
-use Rattle.syntax.specs.Parser.{Parsed}
-use Rattle.std.specs.Prelude.{None}
+use Rattle.syntax.specs.Parser.{Parsed, RowAt, Named}
+use Rattle.std.specs.Prelude as Std
+use Rattle.std.specs.Prelude.{None, Some}
 use Rattle.syntax.proofs.Arguments.{no_line}
 use Rattle.syntax.proofs.Fits.{line_at}
 use Rattle.syntax.proofs.Names.{small_inside, name_none}
@@ -366,6 +366,50 @@ unnamed B t i name f n r =
     none_fits t i n (λ a b c d z m e q u v.
     unlike_one B name (four_of a b c d) names r m (f.is ∙ rw (e, q, u, v) refl))
 
+-- so each name has its row, by computing, and no other has one
+pick : (P : Std.Option ℕ → Type 0) (n k : ℕ) (a b : Std.Option ℕ) → (n ≡ k → P a) → ((n ≡ k → ⊥) → P b)
+    → P (cond (eqb n k) a b)
+pick P n k a b same other = go (eqb n k) refl
+  where
+    go : (x : Bool) → eqb n k ≡ x → P (cond x a b)
+    go true e = same (eqb-true n k e)
+    go false e = other (eqb-false n k e)
+
+rowed : (n : ℕ) → Named n (row_of n)
+unfolding row_of first_fit fit_at operands_as behind_name
+rowed n t i f nb =
+    pick (RowAt t i) n _ (Some 1) _
+    (named t i n 77 79 86 32 f refl refl refl refl 1 (omega arith) (λ k u. refl)) (λ n1.
+    pick (RowAt t i) n _ (Some 2) _
+    (named t i n 67 77 80 32 f refl refl refl refl 2 (omega arith) (λ k u. refl)) (λ n2.
+    pick (RowAt t i) n _ (Some 3) _
+    (named t i n 65 78 68 32 f refl refl refl refl 3 (omega arith) (λ k u. refl)) (λ n3.
+    pick (RowAt t i) n _ (Some 4) _
+    (named t i n 69 79 82 32 f refl refl refl refl 4 (omega arith) (λ k u. refl)) (λ n4.
+    pick (RowAt t i) n _ (Some 5) _
+    (named t i n 65 83 82 32 f refl refl refl refl 5 (omega arith) (λ k u. refl)) (λ n5.
+    pick (RowAt t i) n _ (Some 6) _
+    (named t i n 84 83 84 32 f refl refl refl refl 6 (omega arith) (λ k u. refl)) (λ n6.
+    pick (RowAt t i) n _ (Some 7) _
+    (named t i n 78 69 71 32 f refl refl refl refl 7 (omega arith) (λ k u. refl)) (λ n7.
+    pick (RowAt t i) n _ (Some 9) _
+    (named t i n 65 68 68 32 f refl refl refl refl 9 (omega arith) (λ k u. refl)) (λ n8.
+    pick (RowAt t i) n _ (Some 12) _
+    (named t i n 83 84 82 32 f refl refl refl refl 12 (omega arith) (λ k u. refl)) (λ n9.
+    pick (RowAt t i) n _ (Some 13) _
+    (named t i n 76 68 82 32 f refl refl refl refl 13 (omega arith) (λ k u. refl)) (λ n10.
+    pick (RowAt t i) n _ (Some 14) _
+    (named t i n 83 84 82 66 f refl refl refl refl 14 (omega arith) (λ k u. refl)) (λ n11.
+    pick (RowAt t i) n _ (Some 15) _
+    (named t i n 76 68 82 66 f refl refl refl refl 15 (omega arith) (λ k u. refl)) (λ n12.
+    pick (RowAt t i) n _ (Some 18) _
+    (named t i n 72 65 76 84 f refl refl refl refl 18 (omega arith) (λ k u. refl)) (λ n13.
+    unnamed (Unit {0}) t i n f nb
+    (((((((((((((tt, n1), n2), n3), n4), n5), n6), n7), n8), n9), n10), n11), n12), n13))))))))))))))
+
+pub has_row : {n : ℕ} {r : Std.Option ℕ} → r ≡ row_of n → Named n r
+has_row {n} e = subst (Named n) (sym e) (rowed n)
+
 -- what is left of a text from a place on, as the code cuts it
 left_is : (t : Text) (i : ℕ) → take (length t - i) (drop i t) ≡ drop i t
 left_is t i = take_all (length t - i) (drop i t) (omega (arith, length-drop i t))
@@ -378,9 +422,9 @@ too_short t i n h =
     omega (arith, ap length (left_is t i), length-drop i t, byte_inside t (i + 3) d z v))
 
 -- four characters as they are read
-pub four_read : (t : Text) (i : ℕ) (bs : List ℕ) (name : ℕ) → IsFirstChunk (take (length t - i) (drop i t)) bs 4
-    → ((k : ℕ) → Fits w8 (get_or t k 0)) → name ≡ from_be_bytes w32 bs → Four t i name
-four_read t i bs name f h e =
+pub four_read : (t : Text) (i : ℕ) (bs : List ℕ) → IsFirstChunk (take (length t - i) (drop i t)) bs 4
+    → ((k : ℕ) → Fits w8 (get_or t k 0)) → Four t i (four_in bs)
+four_read t i bs f h =
     let at : (k j : ℕ) → k < 4 → i + k ≡ j → get_or bs k 0 ≡ get_or t j 0 =
     λ k j l q. ap (λ (x : List ℕ). get_or x k 0) (f.same ∙ ap (take 4) (left_is t i))
     ∙ get_or-take 4 (drop i t) k 0 l ∙ get_or-drop i t k 0 ∙ ap (λ (n : ℕ). get_or t n 0) q in
@@ -393,7 +437,6 @@ four_read t i bs name f h e =
       is =
           omega (
             arith,
-            e,
             at 0 i (omega arith) (omega arith),
             at 1 (i + 1) (omega arith) (omega arith),
             at 2 (i + 2) (omega arith) (omega arith),

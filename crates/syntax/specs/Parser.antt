@@ -118,6 +118,28 @@ instructions = drop 1 patterns
 abbrev pub four_of : ℕ → ℕ → ℕ → ℕ → ℕ
 four_of a b c d = a * 16777216 + b * 65536 + c * 256 + d
 
+-- of four that the code holds
+abbrev pub four_in : Text → ℕ
+four_in t = four_of (get_or t 0 0) (get_or t 1 0) (get_or t 2 0) (get_or t 3 0)
+
+-- the first row of a name, of those that are no branches
+unfoldable pub row_of : ℕ → Std.Option ℕ
+row_of n =
+    cond (eqb n (four_in (quoted "MOV "))) (Some 1)
+    (cond (eqb n (four_in (quoted "CMP "))) (Some 2)
+    (cond (eqb n (four_in (quoted "AND "))) (Some 3)
+    (cond (eqb n (four_in (quoted "EOR "))) (Some 4)
+    (cond (eqb n (four_in (quoted "ASR "))) (Some 5)
+    (cond (eqb n (four_in (quoted "TST "))) (Some 6)
+    (cond (eqb n (four_in (quoted "NEG "))) (Some 7)
+    (cond (eqb n (four_in (quoted "ADD "))) (Some 9)
+    (cond (eqb n (four_in (quoted "STR "))) (Some 12)
+    (cond (eqb n (four_in (quoted "LDR "))) (Some 13)
+    (cond (eqb n (four_in (quoted "STRB"))) (Some 14)
+    (cond (eqb n (four_in (quoted "LDRB"))) (Some 15)
+    (cond (eqb n (four_in (quoted "HALT"))) (Some 18)
+    None))))))))))))
+
 pub record Four (t : Text) (i name : ℕ) : Type 0 where
   pub inside : i + 4 ≤ length t
   pub first : get_or t i 0 < 256

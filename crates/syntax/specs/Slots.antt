@@ -1,6 +1,6 @@
 -- What the code of the slots answers, by the definitions of texts.
 use Rattle.std.specs.Prelude as Std
-use Rattle.std.specs.Prelude.{Some, None, cond, List, [], ◌∷◌, ℕ, suc, ◌+◌, ◌-◌, ◌*◌, min, eqb}
+use Rattle.std.specs.Prelude.{Some, None, cond, List, [], ◌∷◌, ℕ, suc, ◌+◌, ◌-◌, ◌*◌, min, eqb, get_or}
 use Rattle.std.proofs.Math.Option.{Option, none, some}
 use Rattle.text.specs.Text.{Text}
 use Rattle.syntax.specs.Syntax.{too_large, conditions}
@@ -19,6 +19,10 @@ abbrev pub letters : Text → ℕ
 letters [] = 0
 letters (c ∷ []) = c
 letters (c ∷ d ∷ t) = 256 * c + d
+
+-- of two letters that the code holds
+abbrev pub letters_in : Text → ℕ
+letters_in t = get_or t 0 0 * 256 + get_or t 1 0
 
 abbrev pub number_among : ℕ → ℕ → List Text → Option ℕ
 number_among k n [] = none

@@ -2,8 +2,8 @@
 // begin with.
 ghost use Rattle.std.specs.Prelude.{◌≡◌, ◌+◌, ◌≤◌, length, get_or, drop};
 ghost use Rattle.text.specs.Text.{quoted, lines_of};
-ghost use Rattle.syntax.specs.Parser.{parsed_at, fit_at, ended, line_fit, first_fit, instructions, Four, Named};
-ghost use Rattle.syntax.specs.Parser.{branch_letter};
+ghost use Rattle.syntax.specs.Parser.{parsed_at, fit_at, ended, line_fit, first_fit, instructions};
+ghost use Rattle.syntax.specs.Parser.{branch_letter, four_in, row_of};
 
 use super::operands::{end_line, operands, two_at};
 use super::slots::{condition_at, name_at, number_at};
@@ -72,28 +72,25 @@ fn note(text: &[u8], at: usize) -> Option<Line>
 }
 
 // The first row whose lines begin with four characters, of those that are no
-// branches. The names are MOV, CMP, AND, EOR, ASR, TST, NEG, ADD, STR and LDR with
-// the space behind them, and STRB, LDRB and HALT.
-// As numbers, since arms like `b"MOV "`, no slower, make 45 goals of these 14, a tree
-// over the bytes, and what the 32 of its `_` know has no names for a proof to cite.
-#[tactic(auto, using(crate::proofs::Heads::unnamed))]
-fn row_named(name: u32) -> Option<usize>
-    ensures { Named name result }
+// branches.
+#[tactic(auto, unfolding(crate::specs::Parser::row_of))]
+fn row_named(name: &[u8; 4]) -> Option<usize>
+    ensures { result ≡ row_of (four_in name.now) }
 {
     match name {
-        0x4d4f5620 => Some(1),
-        0x434d5020 => Some(2),
-        0x414e4420 => Some(3),
-        0x454f5220 => Some(4),
-        0x41535220 => Some(5),
-        0x54535420 => Some(6),
-        0x4e454720 => Some(7),
-        0x41444420 => Some(9),
-        0x53545220 => Some(12),
-        0x4c445220 => Some(13),
-        0x53545242 => Some(14),
-        0x4c445242 => Some(15),
-        0x48414c54 => Some(18),
+        b"MOV " => Some(1),
+        b"CMP " => Some(2),
+        b"AND " => Some(3),
+        b"EOR " => Some(4),
+        b"ASR " => Some(5),
+        b"TST " => Some(6),
+        b"NEG " => Some(7),
+        b"ADD " => Some(9),
+        b"STR " => Some(12),
+        b"LDR " => Some(13),
+        b"STRB" => Some(14),
+        b"LDRB" => Some(15),
+        b"HALT" => Some(18),
         _ => None,
     }
 }
@@ -105,7 +102,7 @@ fn instruction(text: &[u8], at: usize) -> Option<Line>
     ensures { result ≡ first_fit 1 instructions at (drop at text.now) }
 {
     let name = text[at..].first_chunk::<4>()?;
-    let row = row_named(u32::from_be_bytes(*name))?;
+    let row = row_named(name)?;
     let end = at + 4;
     if row == 18 {
         return note(text, end);

@@ -4,7 +4,7 @@
 ghost use Rattle.std.specs.Prelude.{true, false, ◌≡◌, ◌+◌, ◌≤◌, length, drop};
 ghost use Rattle.text.specs.Text.{is_digit};
 ghost use Rattle.syntax.specs.Syntax.{too_large};
-ghost use Rattle.syntax.specs.Slots.{number_as, with_digit, letters_value};
+ghost use Rattle.syntax.specs.Slots.{number_as, with_digit, letters_value, letters_in};
 ghost use Rattle.syntax.specs.Spots.{SpotAt, RegisterAt, Digits, begins_digit};
 ghost use Rattle.syntax.specs.Spots.{number_slot, name_slot, condition_slot};
 
@@ -120,26 +120,26 @@ pub(crate) fn name_at(text: &[u8], at: usize) -> Option<Spot>
     Some(Spot { value, stop: limit })
 }
 
-// A condition's number, by its two letters as one number.
-#[tactic(auto, using(crate::proofs::Conditions::letters_none), unfolding(crate::specs::Slots::letters_value))]
-fn condition_number(letters: u16) -> Option<u64>
-    ensures { result ≡ number_as (letters_value letters) }
+// A condition's number, by its two letters.
+#[tactic(auto, unfolding(crate::specs::Slots::letters_value))]
+fn condition_number(letters: &[u8; 2]) -> Option<u64>
+    ensures { result ≡ number_as (letters_value (letters_in letters.now)) }
 {
     match letters {
-        0x4551 => Some(0),
-        0x4e45 => Some(1),
-        0x4353 => Some(2),
-        0x4343 => Some(3),
-        0x4d49 => Some(4),
-        0x504c => Some(5),
-        0x5653 => Some(6),
-        0x5643 => Some(7),
-        0x4849 => Some(8),
-        0x4c53 => Some(9),
-        0x4745 => Some(10),
-        0x4c54 => Some(11),
-        0x4754 => Some(12),
-        0x4c45 => Some(13),
+        b"EQ" => Some(0),
+        b"NE" => Some(1),
+        b"CS" => Some(2),
+        b"CC" => Some(3),
+        b"MI" => Some(4),
+        b"PL" => Some(5),
+        b"VS" => Some(6),
+        b"VC" => Some(7),
+        b"HI" => Some(8),
+        b"LS" => Some(9),
+        b"GE" => Some(10),
+        b"LT" => Some(11),
+        b"GT" => Some(12),
+        b"LE" => Some(13),
         _ => None,
     }
 }
@@ -150,7 +150,7 @@ pub(crate) fn condition_at(text: &[u8], at: usize) -> Option<Spot>
     ensures { SpotAt condition_slot text.now at result }
 {
     let letters = [byte_at(text, at), byte_at(text, at + 1)];
-    let value = condition_number(u16::from_be_bytes(letters))?;
+    let value = condition_number(&letters)?;
     Some(Spot {
         value,
         stop: at + 2,

@@ -7,9 +7,9 @@ pub returns-in_err-value : goal.returns-in_err-value
 returns-in_err-value c =
     rw c.from_residual.ensures
     (condition_missing _ _ _ _ c.requires c.byte_at.ensures c.byte_at-2.ensures (omega arith)
-    (omega arith) (rw c.from_be_bytes.ensures at c.in_err-value.ensures))
+    (omega arith) c.in_err-value.ensures)
 
 pub returns : goal.returns
 returns c =
     condition_read _ _ _ _ c.requires c.byte_at.ensures c.byte_at-2.ensures (omega arith)
-    (omega arith) _ (rw c.from_be_bytes.ensures at c.in_ok-value.ensures)
+    (omega arith) _ c.in_ok-value.ensures
