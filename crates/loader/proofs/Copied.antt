@@ -1,6 +1,9 @@
 -- Memory with a part of it replaced, and with code copied to its start block by block.
 use Rattle.std.proofs.Common.{◌≡◌, ℕ, ◌+◌, ◌-◌, ◌*◌, ◌/◌, ◌%◌, ◌<◌, ◌≤◌, min, List, ◌++◌, length, get_or, take, drop}
 use Rattle.std.proofs.Common.{sym, refl, ap, ◌∙◌, arith, length-take, length-drop, length-append}
+use Rattle.std.proofs.Common.{set, [], ◌∷◌, append_assoc}
+use Rattle.std.proofs.lemmas.Grind.{common_steps}
+use Rattle.std.proofs.lemmas.List.{set-append_right, take_more, drop_more}
 use lib.ListN.{replicate, length-replicate, get_or-append}
 use lib.Seq.{get_or-take, get_or-drop, get_or-append-add}
 use borrow.Rule.Slice.PartMut.{put_mid, Post-is}
@@ -27,18 +30,32 @@ part_cleared memory part start end h inside e =
     simp (length-take, length-drop) (omega arith) in
     rw (e, long) (part_put start end memory (replicate (end - start) 0) h inside (length-replicate (end - start) 0))
 
--- the part where instructions of block k go, put back as they are in the file
-pub part_copied : (file memory part : List ℕ) (k n start : ℕ) → start ≡ 2 * (block_code * k)
-    → start + 2 * n ≤ length memory → block_bytes * k + header_bytes + 2 * n ≤ length file
-    → part ≡ take (block_bytes * k + header_bytes + 2 * n - (block_bytes * k + header_bytes))
-    (drop (block_bytes * k + header_bytes) file)
-    → put_mid start (start + 2 * n - start) memory part ≡ with_part (2 * (block_code * k)) (code_part file k n) memory
-part_copied file memory part k n start at inside there e =
-    let size : 512 * k + 12 + 2 * n - (512 * k + 12) ≡ 2 * n = omega arith in
-    let long : length (code_part file k n) ≡ start + 2 * n - start = simp (length-take, length-drop) (omega arith) in
-    rw (e, size)
-    (part_put start (start + 2 * n) memory (code_part file k n) (omega arith) inside long
-    ∙ ap (λ (a : ℕ). with_part a (code_part file k n) memory) at)
+-- a part is written from its start: nothing yet, and a byte more
+pub part_none : (start : ℕ) (xs memory : List ℕ) → with_part start (take 0 xs) memory ≡ memory
+unfolding with_part
+part_none start xs memory = grind (arith, common_steps)
+
+pub part_more : (start i : ℕ) (xs memory : List ℕ) → start + i < length memory → i < length xs
+    → set (with_part start (take i xs) memory) (start + i) (get_or xs i 0) ≡ with_part start (take (i + 1) xs) memory
+unfolding with_part
+part_more start i xs memory room more =
+    let head : length (take start memory) ≡ start = simp length-take (omega arith) in
+    let done : length (take i xs) ≡ i = simp length-take (omega arith) in
+    let next : length (take (i + 1) xs) ≡ i + 1 = simp length-take (omega arith) in
+    let second : start + i - start ≡ i = omega arith in
+    let third : i - i ≡ 0 = omega arith in
+    let along : start + i + 1 ≡ start + (i + 1) = omega arith in
+    rw (done, next)
+    (set-append_right (take start memory) (take i xs ++ drop (start + i) memory) start (start + i) (get_or xs i 0) head
+    (omega arith)
+    ∙ ap (λ (n : ℕ). take start memory ++ set (take i xs ++ drop (start + i) memory) n (get_or xs i 0)) second
+    ∙ ap (λ (t : List ℕ). take start memory ++ t)
+    (set-append_right (take i xs) (drop (start + i) memory) i i (get_or xs i 0) done (omega arith)
+    ∙ ap (λ (n : ℕ). take i xs ++ set (drop (start + i) memory) n (get_or xs i 0)) third
+    ∙ ap (λ (t : List ℕ). take i xs ++ set t 0 (get_or xs i 0)) (drop_more memory (start + i) 0 room)
+    ∙ ap (λ (n : ℕ). take i xs ++ (get_or xs i 0 ∷ drop n memory)) along
+    ∙ sym (append_assoc (take i xs) (get_or xs i 0 ∷ []) (drop (start + (i + 1)) memory))
+    ∙ ap (λ (t : List ℕ). t ++ drop (start + (i + 1)) memory) (sym (take_more xs i 0 more))))
 
 module _ (start : ℕ) (part memory : List ℕ) (fits : start + length part ≤ length memory) where
   head_long : length (take start memory) ≡ start

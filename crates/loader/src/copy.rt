@@ -9,7 +9,8 @@ use image::{BLOCK_BYTES, BLOCK_CODE, HEADER_BYTES};
 use units::{ByteAddress, InstructionIndex, Memory};
 
 // Copies the first `n` instructions of block `k` to where they go: they lie in
-// one row, in the file and in memory.
+// one row, in the file and in memory. A loop, which the compiler does many bytes at
+// a time: `copy_from_slice` would ask the C library for `memmove`.
 fn copy_block(file: &[u8], memory: &mut Memory, k: usize, n: usize)
     requires in_memory { 2 * (block_code * k + n) ≤ memory_bytes }
     requires first { block_code * k < 65536 }
@@ -19,7 +20,9 @@ fn copy_block(file: &[u8], memory: &mut Memory, k: usize, n: usize)
     let first = ByteAddress::from(InstructionIndex((BLOCK_CODE * k) as u16));
     let from = BLOCK_BYTES * k + HEADER_BYTES;
     let to = first.0 as usize;
-    memory[to..to + 2 * n].copy_from_slice(&file[from..from + 2 * n]);
+    for i in 0..2 * n {
+        memory[to + i] = file[from + i];
+    }
 }
 
 // Copies the first `count` instructions of a file to address 0, block by block.
