@@ -552,8 +552,9 @@ uint32_t paw_pack(const uint16_t *code, size_t code_len, uint16_t window_start,
  * 22 and 23 are put together, line by line: of two faults the upper one is told, whichever number
  * it has. Does not verify the code.
  *
- * A long text takes 903,816 bytes of stack, nearly all of it a table of labels and notes of the
- * instructions; one of 40 lines takes 7,928.
+ * It takes at most 903,816 bytes of stack, nearly all of them a table of labels and notes of the
+ * instructions: a text of more than 16,384 bytes, or with more instructions than the room for its
+ * length holds (128 up to 1,024 bytes), takes that, one of 40 lines 7,928.
  */
 uint64_t paw_assemble(const uint8_t *text, size_t text_len, uint16_t *code, size_t code_len);
 

@@ -1,4 +1,8 @@
 // What a file has where a check failed.
+ghost use Rattle.std.specs.Prelude.{◌≡◌, IfSome};
+ghost use Rattle.units.specs.Bytes.{halfword_at};
+ghost use Rattle.image.specs.Code.{code_at};
+
 use digits::Hex;
 use image::{BLOCK_BYTES, BLOCK_CODE, HEADER_BYTES, MOST_BYTES};
 use refusals::{Check, Place, Refusal};
@@ -7,9 +11,25 @@ use streams::Ascii;
 use units::{ByteAddress, InstructionIndex};
 
 // The halfword at a byte of the file, if it has one there.
-fn halfword_at(file: &[u8], p: usize) -> Option<u16> {
-    let bytes = file.get(p..)?.first_chunk::<2>()?;
-    Some(u16::from_le_bytes(*bytes))
+fn halfword_at(file: &[u8], p: usize) -> Option<u16>
+    ensures { IfSome result (λ h. h ≡ halfword_at file.now p) }
+{
+    if p >= file.len() || p + 1 >= file.len() {
+        return None;
+    }
+    Some(units::halfword_at(file, p))
+}
+
+// The halfword of instruction `i`, if the file has it.
+fn code_at(file: &[u8], i: InstructionIndex) -> Option<u16>
+    ensures { IfSome result (λ h. h ≡ code_at file.now i.0) }
+{
+    let number = usize::from(i.0);
+    let start = number / BLOCK_CODE * BLOCK_BYTES + HEADER_BYTES + 2 * (number % BLOCK_CODE);
+    if start + 2 > file.len() {
+        return None;
+    }
+    Some(image::code_at(file, i))
 }
 
 // What a block says of itself.
@@ -97,9 +117,7 @@ fn print_block(rt: &impl Print, file: &[u8], check: Check, k: u8) -> io::Result<
 
 // The halfword at an address, and the instruction that it is, as a listing has it.
 fn print_instruction(rt: &impl Print, file: &[u8], a: ByteAddress) -> io::Result<()> {
-    let number = usize::from(InstructionIndex::from(a).0);
-    let start = number / BLOCK_CODE * BLOCK_BYTES + HEADER_BYTES;
-    let Some(h) = halfword_at(file, start + 2 * (number % BLOCK_CODE)) else {
+    let Some(h) = code_at(file, InstructionIndex::from(a)) else {
         return Ok(());
     };
     print!(rt; "  At address {} stands {}", a.0, Hex(h))?;

@@ -1,18 +1,19 @@
 // The code of an image as halfwords.
-use arrayvec::ArrayVec;
-use image::{BLOCK_BYTES, BLOCK_CODE, HEADER_BYTES, MOST_CODE};
-use units::{ByteAddress, InstructionIndex};
+ghost use Rattle.std.specs.Prelude.{[], ◌≡◌, Ok};
+ghost use Rattle.image.specs.Check.{check_of};
+ghost use Rattle.image.specs.Code.{code_of};
 
-// The code of a file that says that it has so many bytes. What the file doesn't have
-// is left out.
-pub(crate) fn read_code(file: &[u8], bytes: u16) -> ArrayVec<u16, MOST_CODE> {
-    let count = usize::from(InstructionIndex::from(ByteAddress(bytes)).0);
-    let halfwords = file.chunks_exact(BLOCK_BYTES).flat_map(|block| block[HEADER_BYTES..]
-        .chunks_exact(2)
-        .take(BLOCK_CODE));
-    let mut code = ArrayVec::new();
-    for h in halfwords.take(count) {
-        let _ = code.try_push(u16::from_le_bytes([h[0], h[1]]));
+use arrayvec::ArrayVec;
+use image::{Layout, MOST_CODE};
+use units::InstructionIndex;
+
+// Puts the code of a file of which the checks say this layout into an empty vector.
+pub(crate) fn read_code(file: &[u8], layout: Layout, code: &mut ArrayVec<u16, MOST_CODE>)
+    requires checked { check_of file.now ≡ Ok layout }
+    requires empty { code.old.items ≡ [] }
+    ensures { code.new.items ≡ code_of file.now }
+{
+    for i in 0..layout.count().0 {
+        code.push(image::code_at(file, InstructionIndex(i)));
     }
-    code
 }

@@ -6,6 +6,7 @@
 mod code;
 mod complaints;
 
+use arrayvec::ArrayVec;
 use refusals::Refusal;
 use std::io;
 
@@ -16,22 +17,34 @@ const MOST: usize = image::MOST_BYTES + 1;
 // The longest listing: 19 bytes for an instruction and 8 for its label.
 const MOST_TEXT: usize = 27 * image::MOST_CODE;
 
-// Writes the listing of a file into the room, and answers its length.
-fn list_into(file: &[u8], room: &mut [u8]) -> Result<usize, Refusal> {
-    let layout = image::check(file)?;
-    let code = code::read_code(file, layout.code_bytes);
-    lister::list(code.as_slice(), room)
+// Says why there is no listing.
+fn refuse(rt: &impl Eprint, refusal: Refusal) -> io::Result<()> {
+    complaints::say_refusal(rt, refusal);
+    Ok(())
+}
+
+// Writes the listing of a code, which is made in the room.
+fn write_within(rt: &(impl Print + Eprint), code: &[u16], room: &mut [u8]) -> io::Result<()> {
+    match lister::list(code, room) {
+        Ok(n) => rt.write_all(&room[..n.min(room.len())]),
+        Err(refusal) => refuse(rt, refusal),
+    }
+}
+
+// The same in a room for any listing, which a file that is refused never needs.
+fn write_listing(rt: &(impl Print + Eprint), code: &[u16]) -> io::Result<()> {
+    write_within(rt, code, &mut [0u8; MOST_TEXT])
 }
 
 // Fails where standard output does.
 fn list(rt: &(impl Print + Eprint), file: &[u8]) -> io::Result<()> {
-    let mut text = [0u8; MOST_TEXT];
-    match list_into(file, &mut text) {
-        Ok(n) => rt.write_all(&text[..n.min(MOST_TEXT)]),
-        Err(refusal) => {
-            complaints::say_refusal(rt, refusal);
-            Ok(())
+    match image::check(file) {
+        Ok(layout) => {
+            let mut code = ArrayVec::new();
+            code::read_code(file, layout, &mut code);
+            write_listing(rt, code.as_slice())
         }
+        Err(refusal) => refuse(rt, refusal),
     }
 }
 

@@ -55,7 +55,7 @@ pub(crate) fn make(rt: &(impl Input + Print + Eprint + AllocGlobal), window: Win
             let _ = eprintln!(rt; "pack: standard input does not end");
         }
         Err(InputError::Scan(error)) => {
-            let line = scan.line;
+            let line = scan.line();
             let _ = eprintln!(rt; "pack: line {line}: {error}");
         }
     }

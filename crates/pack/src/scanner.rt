@@ -71,87 +71,128 @@ impl Word {
     }
 }
 
-// What is known after some of the text: the line, the halfwords before, the one that
-// may have begun, whether a comment has, and whether the byte before was a carriage
-// return.
-#[derive(Drop)]
-pub struct Scan {
-    pub line: u64,
-    pub code: ArrayVec<u16, ROOM>,
+// Where a scan stands: the line, the halfword that may have begun, whether a comment
+// has, and whether the byte before was a carriage return. It goes from byte to byte by
+// value, so that none of it is kept in memory beside the halfwords.
+#[derive(Clone, Copy)]
+struct Place {
+    line: u64,
     word: Word,
     comment: bool,
     returned: bool,
+}
+
+impl Place {
+    // The end of a halfword, if one has begun. What there is no room for is left out:
+    // it is too much already.
+    fn end_word(self, code: &mut ArrayVec<u16, ROOM>) -> Result<Place, ScanError> {
+        let word = self.word;
+        if word.digits > 0 {
+            let _ = code.try_push(word.value);
+        } else if word.prefixed {
+            return Err(ScanError::NoDigits);
+        }
+        Ok(Place {
+            word: Word::default(),
+            ..self
+        })
+    }
+
+    // The end of a line, and of its comment. A carriage return with a line feed
+    // behind it ends one line.
+    fn end_line(self, b: u8) -> Place {
+        let ended = b == b'\n' && self.returned;
+        Place {
+            comment: false,
+            line: if ended {
+                self.line
+            } else {
+                self.line.saturating_add(1)
+            },
+            ..self
+        }
+    }
+
+    // A byte of a halfword or of a comment.
+    fn take_character(self, b: u8) -> Result<Place, ScanError> {
+        if self.comment {
+            return Ok(self);
+        }
+        let word = if self.word.is_prefix(b) {
+            Word {
+                prefixed: true,
+                ..Word::default()
+            }
+        } else {
+            self.word.with(b)?
+        };
+        Ok(Place { word, ..self })
+    }
+
+    // One byte more of the text.
+    fn take(self, b: u8, code: &mut ArrayVec<u16, ROOM>) -> Result<Place, ScanError> {
+        let next = match b {
+            b' ' | b'\t' => self.end_word(code)?,
+            b'\r' | b'\n' => self.end_word(code)?.end_line(b),
+            b'#' => Place {
+                comment: true,
+                ..self.end_word(code)?
+            },
+            _ => self.take_character(b)?,
+        };
+        Ok(Place {
+            returned: b == b'\r',
+            ..next
+        })
+    }
+}
+
+// What is known after some of the text: where the scan stands, and the halfwords
+// before.
+#[derive(Drop)]
+pub struct Scan {
+    pub code: ArrayVec<u16, ROOM>,
+    place: Place,
 }
 
 impl Scan {
     // Before the text.
     pub(crate) fn new() -> Scan {
         Scan {
-            line: 1,
             code: ArrayVec::new(),
-            word: Word::default(),
-            comment: false,
-            returned: false,
+            place: Place {
+                line: 1,
+                word: Word::default(),
+                comment: false,
+                returned: false,
+            },
         }
     }
 
-    // The end of a halfword, if one has begun. What there is no room for is left out:
-    // it is too much already.
-    fn end_word(&mut self) -> Result<(), ScanError> {
-        let word = self.word;
-        if word.digits > 0 {
-            let _ = self.code.try_push(word.value);
-        } else if word.prefixed {
-            return Err(ScanError::NoDigits);
-        }
-        self.word = Word::default();
-        Ok(())
-    }
-
-    // The end of a line, and of its comment. A carriage return with a line feed
-    // behind it ends one line.
-    fn end_line(&mut self, b: u8) {
-        self.comment = false;
-        if !(b == b'\n' && self.returned) {
-            self.line = self.line.saturating_add(1);
-        }
-    }
-
-    // One byte more of the text.
-    fn take(&mut self, b: u8) -> Result<(), ScanError> {
-        match b {
-            b' ' | b'\t' => self.end_word()?,
-            b'\r' | b'\n' => {
-                self.end_word()?;
-                self.end_line(b);
-            }
-            b'#' => {
-                self.end_word()?;
-                self.comment = true;
-            }
-            _ if self.comment => (),
-            _ if self.word.is_prefix(b) => {
-                self.word = Word {
-                    prefixed: true,
-                    ..Word::default()
-                };
-            }
-            _ => self.word = self.word.with(b)?,
-        }
-        self.returned = b == b'\r';
-        Ok(())
+    // The line that the scan is in, counted from 1.
+    pub(crate) fn line(&self) -> u64 {
+        self.place.line
     }
 
     // Some of the text, up to its end or to what is no halfword.
     pub(crate) fn take_piece(&mut self, piece: &[u8]) -> Result<(), ScanError> {
+        let mut place = self.place;
         for &b in piece {
-            self.take(b)?;
+            match place.take(b, &mut self.code) {
+                Ok(next) => place = next,
+                Err(error) => {
+                    self.place = place;
+                    return Err(error);
+                }
+            }
         }
+        self.place = place;
         Ok(())
     }
 
     // The end of the text.
     pub(crate) fn finish(&mut self) -> Result<(), ScanError> {
-        self.end_word()
+        self.place = self.place.end_word(&mut self.code)?;
+        Ok(())
     }
 }

@@ -1,5 +1,6 @@
 // The image of the assembler text on standard input.
-ghost use Rattle.std.specs.Prelude.{◌≡◌, length};
+ghost use Rattle.std.specs.Prelude.{◌≡◌, ◌-◌, length};
+ghost use Rattle.pack.specs.Shown.{line_of};
 
 use super::arguments::Window;
 use super::maker::pack;
@@ -35,10 +36,14 @@ impl fmt::Display for Excerpt<'_> {
 }
 
 // Line `line` of a text, counted from 1, with no line feed; nothing if it has fewer.
-fn line_of(text: &[u8], line: usize) -> &[u8] {
-    text.split(|&b| b == b'\n')
-        .nth(line.saturating_sub(1))
-        .unwrap_or(&[])
+fn line_of(text: &[u8], line: u64) -> &[u8]
+    ensures { result.now ≡ line_of (line - 1) text.now }
+{
+    let mut at = 0;
+    for k in 0..line.saturating_sub(1) {
+        at = text.len().min(text::line_end(text, at) + 1);
+    }
+    &text[at..text::line_end(text, at)]
 }
 
 // What a check asks, in words.
@@ -64,7 +69,7 @@ fn say_refused(rt: &impl Eprint, text: &[u8], refusal: TextRefusal) {
     let TextRefusal { check, line } = refusal;
     let _ = eprint!(rt; "refused {} {line}\n{}", u8::from(check), asked(check));
     if line > 0 {
-        let _ = eprintln!(rt; "  Line {line}: {}", Excerpt(line_of(text, line as usize)));
+        let _ = eprintln!(rt; "  Line {line}: {}", Excerpt(line_of(text, line)));
     }
 }
 

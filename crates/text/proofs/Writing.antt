@@ -1,9 +1,9 @@
 -- Texts written one behind the other, and how long decimals are.
 use Rattle.std.proofs.Common.{Bool, true, false, cond, [], ◌∷◌, ◌++◌, append_assoc, ◌≡◌, refl, sym, ap, ◌∙◌}
 use Rattle.std.proofs.Common.{ℕ, suc, ◌+◌, ◌-◌, ◌/◌, ◌%◌, ◌<◌, ◌≤◌, arith, length, take, drop, drop-drop}
-use Rattle.std.proofs.Common.{length-append, length-set}
+use Rattle.std.proofs.Common.{replicate, length-append, length-set}
 use Rattle.std.proofs.Math.Seq.{length-sets, take-append_seam}
-use Rattle.std.proofs.lemmas.List.{length-take-le}
+use Rattle.std.proofs.lemmas.List.{length-take-le, drop_at, drop-replicate}
 use Rattle.std.proofs.lemmas.List.Edits.{sets-eq}
 use borrow.Author.Tests.{lt-ltb}
 use borrow.Rule.Slice.Mut.{set_vals}
@@ -11,7 +11,7 @@ use borrow.Rule.Slice.PartMut.{put_mid}
 use lib.Dec.{ltb}
 use lib.ListN.{set}
 use Rattle.text.specs.Text.{Text, digit, decimal, written}
-use Rattle.text.specs.Writes.{Fits, Grew}
+use Rattle.text.specs.Writes.{Fits, Grew, ZerosFrom}
 use Rattle.text.specs.declared.writer.Writer.{Writer}
 
 pub written_more : (at : ℕ) (s t room : Text) → written (at + length s) t (written at s room) ≡ written at (s ++ t) room
@@ -85,6 +85,34 @@ written_front at t room fits =
 pub grew_front : {t : Text} {v w : Writer} → Fits t v → Grew t v w
     → take w.at w.room.now ≡ take v.at v.room.now ++ t
 grew_front {t} {v} fits g = rw (g.place, g.room) (written_front v.at t v.room.now fits)
+
+-- what stands behind it is what stood there
+behind_written : (at : ℕ) (t room : Text) → at + length t ≤ length room
+    → drop (at + length t) (written at t room) ≡ drop (at + length t) room
+unfolding written
+behind_written at t room fits =
+    let front = take at room ++ t in
+    let long : length front ≡ at + length t =
+    omega (arith, length-append (take at room) t, length-take-le at room (omega arith)) in
+    ap (drop (at + length t)) (sets-eq t room at fits) ∙ drop_at front (drop (at + length t) room) (at + length t) long
+
+zeros_written : (at : ℕ) (t room : Text) → at + length t ≤ length room → ZerosFrom at room
+    → ZerosFrom (at + length t) (written at t room)
+zeros_written at t room fits zeros =
+    let further : drop (length t) (drop at room) ≡ drop (at + length t) room =
+    drop-drop (length t) at room ∙ ap (λ (n : ℕ). drop n room) (omega arith) in
+    behind_written at t room fits ∙ sym further ∙ ap (drop (length t)) zeros
+    ∙ drop-replicate (length t) (length room - at) 0
+    ∙ ap (λ (n : ℕ). replicate n 0) (omega (arith, written_length at t room))
+
+pub zeros_behind : {t : Text} {v w : Writer} → Fits t v → Grew t v w → ZerosFrom v.at v.room.now
+    → ZerosFrom w.at w.room.now
+zeros_behind {t} {v} fits g zeros = rw (g.place, g.room) (zeros_written v.at t v.room.now fits zeros)
+
+pub zeros_behind_byte : (at c : ℕ) (room : Text) → at < length room → ZerosFrom at room
+    → ZerosFrom (at + 1) (set room at c)
+unfolding written
+zeros_behind_byte at c room inside zeros = zeros_written at (c ∷ []) room (omega arith) zeros
 
 -- a digit that isn't there, and one that is
 pub digit_none : (n unit : ℕ) → n < unit → digit n unit ≡ []

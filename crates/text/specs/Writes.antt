@@ -1,5 +1,5 @@
 -- What a writer has room for, and what it has written.
-use Rattle.std.specs.Prelude.{◌≡◌, ◌+◌, ◌≤◌, length}
+use Rattle.std.specs.Prelude.{List, ℕ, ◌≡◌, ◌+◌, ◌-◌, ◌≤◌, length, drop, replicate}
 use Rattle.text.specs.Text.{Text, written}
 use Rattle.text.specs.declared.writer.Writer.{Writer}
 
@@ -13,3 +13,7 @@ pub record Grew (t : Text) (before after : Writer) : Type 0 where
   pub place : after.at ≡ before.at + length t
   pub room : after.room.now ≡ written before.at t before.room.now
   pub kept : length after.room.now ≡ length before.room.now
+
+-- zeros stand from a place on
+abbrev pub ZerosFrom : ℕ → List ℕ → Type 0
+ZerosFrom at bytes = drop at bytes ≡ replicate (length bytes - at) 0

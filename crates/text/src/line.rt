@@ -8,7 +8,8 @@ use std::marker::Model;
 // The room of a line. No line that the programs write has more.
 pub const LINE_BYTES: usize = 32;
 
-// The bytes of a line, its line feed among them. A clause sees those that count.
+// The bytes of a line, its line feed among them. A clause sees those that count; 0 stands
+// behind them.
 #[derive(Drop)]
 pub struct Line {
     bytes: [u8; LINE_BYTES],
@@ -18,12 +19,13 @@ pub struct Line {
 impl Model for Line {
     ghost use Rattle.std.specs.Prelude.{List, ℕ, ◌≤◌, take};
     ghost use Rattle.text.specs.Text.{line_bytes};
+    ghost use Rattle.text.specs.Writes.{ZerosFrom};
 
     ghost Value = { List ℕ };
 
     ghost view = { λ l. take l.length l.bytes };
 
-    ghost invariant = { λ l. l.length ≤ line_bytes };
+    ghost invariant = { λ l. (l.length ≤ line_bytes) × ZerosFrom l.length l.bytes };
 }
 
 impl Line {
@@ -37,10 +39,11 @@ impl Line {
     }
 
     // The line of bytes that were written at the front of an array.
-    pub fn from_front(bytes: [u8; LINE_BYTES], length: usize) -> Line
+    pub fn from_front(mut bytes: [u8; LINE_BYTES], length: usize) -> Line
         requires { length ≤ line_bytes }
         ensures { result ≡ take length bytes }
     {
+        bytes[length..].fill(0);
         Line { bytes, length }
     }
 
