@@ -31,7 +31,7 @@ fn write_within(rt: &(impl Print + Eprint), code: &[u16], room: &mut [u8]) -> io
     }
 }
 
-// The same in a room for any listing, which a file that is refused never needs.
+// The same in a room for any listing, to which a file that is no image never comes.
 fn write_listing(rt: &(impl Print + Eprint), code: &[u16]) -> io::Result<()> {
     write_within(rt, code, &mut [0u8; MOST_TEXT])
 }

@@ -72,8 +72,8 @@ impl Word {
 }
 
 // Where a scan stands: the line, the halfword that may have begun, whether a comment
-// has, and whether the byte before was a carriage return. It goes from byte to byte by
-// value, so that none of it is kept in memory beside the halfwords.
+// has, and whether the byte before was a carriage return. Within a piece of the text it
+// goes from byte to byte by value, so that it is not kept in memory beside the halfwords.
 #[derive(Clone, Copy)]
 struct Place {
     line: u64,
