@@ -553,8 +553,8 @@ uint32_t paw_pack(const uint16_t *code, size_t code_len, uint16_t window_start,
  * it has. Does not verify the code.
  *
  * It takes at most 903,816 bytes of stack, nearly all of them a table of labels and notes of the
- * instructions: a text of more than 16,384 bytes, or with more instructions than the room for its
- * length holds (128 up to 1,024 bytes), takes that, one of 40 lines 7,928.
+ * instructions. A text of 40 lines takes 7,928; but one of more than 16,384 bytes may take all, and
+ * so may a shorter one with more instructions than its length lets expect: above 128 in 1,024 bytes.
  */
 uint64_t paw_assemble(const uint8_t *text, size_t text_len, uint16_t *code, size_t code_len);
 

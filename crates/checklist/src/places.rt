@@ -1,7 +1,8 @@
 // What a file has where a check failed.
-ghost use Rattle.std.specs.Prelude.{◌≡◌, IfSome};
+ghost use Rattle.std.specs.Prelude.{◌≡◌, ◌+◌, leb, length};
+ghost use Rattle.std.specs.Bool.{then_some};
 ghost use Rattle.units.specs.Bytes.{halfword_at};
-ghost use Rattle.image.specs.Code.{code_at};
+ghost use Rattle.image.specs.Code.{code_position, code_at};
 
 use digits::Hex;
 use image::{BLOCK_BYTES, BLOCK_CODE, HEADER_BYTES, MOST_BYTES};
@@ -12,9 +13,9 @@ use units::{ByteAddress, InstructionIndex};
 
 // The halfword at a byte of the file, if it has one there.
 fn halfword_at(file: &[u8], p: usize) -> Option<u16>
-    ensures { IfSome result (λ h. h ≡ halfword_at file.now p) }
+    ensures { result ≡ then_some (leb (p + 2) (length file.now)) (halfword_at file.now p) }
 {
-    if p >= file.len() || p + 1 >= file.len() {
+    if file.len() < 2 || file.len() - 2 < p {
         return None;
     }
     Some(units::halfword_at(file, p))
@@ -22,7 +23,7 @@ fn halfword_at(file: &[u8], p: usize) -> Option<u16>
 
 // The halfword of instruction `i`, if the file has it.
 fn code_at(file: &[u8], i: InstructionIndex) -> Option<u16>
-    ensures { IfSome result (λ h. h ≡ code_at file.now i.0) }
+    ensures { result ≡ then_some (leb (code_position i.0 + 2) (length file.now)) (code_at file.now i.0) }
 {
     let number = usize::from(i.0);
     let start = number / BLOCK_CODE * BLOCK_BYTES + HEADER_BYTES + 2 * (number % BLOCK_CODE);

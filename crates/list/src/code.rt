@@ -14,6 +14,7 @@ pub(crate) fn read_code(file: &[u8], layout: Layout, code: &mut ArrayVec<u16, MO
     ensures { code.new.items ≡ code_of file.now }
 {
     for i in 0..layout.count().0 {
-        code.push(image::code_at(file, InstructionIndex(i)));
+        let h = image::code_at(file, InstructionIndex(i));
+        code.push(h);
     }
 }

@@ -23,7 +23,8 @@ fn refuse(rt: &impl Eprint, refusal: Refusal) -> io::Result<()> {
     Ok(())
 }
 
-// Writes the listing of a code, which is made in the room.
+// Writes the listing of a code, which is made in the room. The room is lent, so that no
+// proof here counts so long an array.
 fn write_within(rt: &(impl Print + Eprint), code: &[u16], room: &mut [u8]) -> io::Result<()> {
     match lister::list(code, room) {
         Ok(n) => rt.write_all(&room[..n.min(room.len())]),

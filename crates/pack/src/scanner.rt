@@ -75,24 +75,24 @@ impl Word {
 // has, and whether the byte before was a carriage return. Within a piece of the text it
 // goes from byte to byte by value, so that it is not kept in memory beside the halfwords.
 #[derive(Clone, Copy)]
-struct Place {
+struct State {
     line: u64,
     word: Word,
     comment: bool,
     returned: bool,
 }
 
-impl Place {
+impl State {
     // The end of a halfword, if one has begun. What there is no room for is left out:
     // it is too much already.
-    fn end_word(self, code: &mut ArrayVec<u16, ROOM>) -> Result<Place, ScanError> {
+    fn end_word(self, code: &mut ArrayVec<u16, ROOM>) -> Result<State, ScanError> {
         let word = self.word;
         if word.digits > 0 {
             let _ = code.try_push(word.value);
         } else if word.prefixed {
             return Err(ScanError::NoDigits);
         }
-        Ok(Place {
+        Ok(State {
             word: Word::default(),
             ..self
         })
@@ -100,9 +100,9 @@ impl Place {
 
     // The end of a line, and of its comment. A carriage return with a line feed
     // behind it ends one line.
-    fn end_line(self, b: u8) -> Place {
+    fn end_line(self, b: u8) -> State {
         let ended = b == b'\n' && self.returned;
-        Place {
+        State {
             comment: false,
             line: if ended {
                 self.line
@@ -114,7 +114,7 @@ impl Place {
     }
 
     // A byte of a halfword or of a comment.
-    fn take_character(self, b: u8) -> Result<Place, ScanError> {
+    fn take_character(self, b: u8) -> Result<State, ScanError> {
         if self.comment {
             return Ok(self);
         }
@@ -126,21 +126,21 @@ impl Place {
         } else {
             self.word.with(b)?
         };
-        Ok(Place { word, ..self })
+        Ok(State { word, ..self })
     }
 
     // One byte more of the text.
-    fn take(self, b: u8, code: &mut ArrayVec<u16, ROOM>) -> Result<Place, ScanError> {
+    fn take(self, b: u8, code: &mut ArrayVec<u16, ROOM>) -> Result<State, ScanError> {
         let next = match b {
             b' ' | b'\t' => self.end_word(code)?,
             b'\r' | b'\n' => self.end_word(code)?.end_line(b),
-            b'#' => Place {
+            b'#' => State {
                 comment: true,
                 ..self.end_word(code)?
             },
             _ => self.take_character(b)?,
         };
-        Ok(Place {
+        Ok(State {
             returned: b == b'\r',
             ..next
         })
@@ -152,7 +152,7 @@ impl Place {
 #[derive(Drop)]
 pub struct Scan {
     pub code: ArrayVec<u16, ROOM>,
-    place: Place,
+    state: State,
 }
 
 impl Scan {
@@ -160,7 +160,7 @@ impl Scan {
     pub(crate) fn new() -> Scan {
         Scan {
             code: ArrayVec::new(),
-            place: Place {
+            state: State {
                 line: 1,
                 word: Word::default(),
                 comment: false,
@@ -171,28 +171,28 @@ impl Scan {
 
     // The line that the scan is in, counted from 1.
     pub(crate) fn line(&self) -> u64 {
-        self.place.line
+        self.state.line
     }
 
     // Some of the text, up to its end or to what is no halfword.
     pub(crate) fn take_piece(&mut self, piece: &[u8]) -> Result<(), ScanError> {
-        let mut place = self.place;
+        let mut state = self.state;
         for &b in piece {
-            match place.take(b, &mut self.code) {
-                Ok(next) => place = next,
+            match state.take(b, &mut self.code) {
+                Ok(next) => state = next,
                 Err(error) => {
-                    self.place = place;
+                    self.state = state;
                     return Err(error);
                 }
             }
         }
-        self.place = place;
+        self.state = state;
         Ok(())
     }
 
     // The end of the text.
     pub(crate) fn finish(&mut self) -> Result<(), ScanError> {
-        self.place = self.place.end_word(&mut self.code)?;
+        self.state = self.state.end_word(&mut self.code)?;
         Ok(())
     }
 }

@@ -17,8 +17,8 @@ counted : (file : List ℕ) (layout : Layout) (end : InstructionIndex)
 counted file layout end valid is =
     ap (λ (k : InstructionIndex). k.0) is ∙ omega (arith, valid_code_bytes file layout valid)
 
-pub code_at-requires : goal.code_at-requires
-code_at-requires c =
+pub code_at-h-requires : goal.code_at-h-requires
+code_at-h-requires c =
     let n = counted _ _ _ c.requires.checked c.count-i-end.ensures in
     code_in_file _ _ c.requires.checked c.loop-i.i (omega arith)
 
@@ -36,8 +36,8 @@ loop-i-preserved c =
     let i = c.loop-i.i in
     let inside : i < length all = omega arith in
     let one_more : suc i ≡ i + 1 = omega arith in
-    let halfword = c.code_at.ensures ∙ sym (code_halfword_is c.args.file.now i inside) in
-    c.push.ensures.items ∙ ap (λ (xs : List ℕ). xs ++ c.code_at.result ∷ []) c.loop-i.invariant
+    let halfword = c.code_at-h.ensures ∙ sym (code_halfword_is c.args.file.now i inside) in
+    c.push.ensures.items ∙ ap (λ (xs : List ℕ). xs ++ c.code_at-h.result ∷ []) c.loop-i.invariant
     ∙ ap (λ (h : ℕ). take i all ++ h ∷ []) halfword ∙ sym (take-suc all i 0 inside)
     ∙ ap (λ (k : ℕ). take k all) one_more
 
